@@ -1,0 +1,3 @@
+pub mod Modular
+pub mod Inverse
+pub mod Laws
