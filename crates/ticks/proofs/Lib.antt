@@ -1,0 +1,4 @@
+pub mod Tested
+pub mod Products
+pub mod Raising
+pub mod Entries
