@@ -5,7 +5,7 @@ use Prim.Native.Nat.{ℕ, zero, suc, _+_, _*_, _<_}
 use native.Mathlib.Nat.{zero-add, suc-add, mul-zero, mul-suc, mul-comm, add-comm}
 use lib.Dec.{lit<}
 use Rattle.ticks.specs.Polynomials.{product, raised}
-use Rattle.ticks.proofs.Products.{product-below, one-product, product-one, product-comm, product-assoc}
+use Rattle.ticks.proofs.Products.{zero-product, product-below, one-product, product-one, product-comm, product-assoc}
 
 pub raised-zero : (a : ℕ) → raised a zero ≡ 1
 unfolding raised
@@ -39,6 +39,9 @@ raised-swap a k n h = raised-mul a k n h ∙ ap (raised a) (mul-comm k n) ∙ sy
 pub one-raised : (n : ℕ) → raised 1 n ≡ 1
 one-raised zero = raised-zero 1
 one-raised (suc n) = raised-suc 1 n ∙ ap (product 1) (one-raised n) ∙ one-product 1 (lit< tt)
+
+pub zero-raised : (n : ℕ) → raised 0 (suc n) ≡ 0
+zero-raised n = raised-suc 0 n ∙ zero-product (raised 0 n)
 
 -- a byte has one inverse at most
 pub one-inverse :

@@ -5,9 +5,9 @@ use native.Mathlib.Nat.{mod-lt, mod-eq-of-lt}
 use lib.Bits.{bitXor, xor-lt, xor-comm, xor-assoc, xor-self}
 use lib.Dec.{lit<, lit≤}
 use Rattle.ticks.specs.Polynomials.{product, raised}
-use Rattle.ticks.proofs.Products.{zero-product, product-below, one-product, product-comm, product-assoc, product-xor}
-use Rattle.ticks.proofs.Raising.{raised-suc, raised-below}
-use Rattle.ticks.proofs.Entries.{inverse-is}
+use Rattle.ticks.proofs.Products.{product-below, one-product, product-comm, product-assoc, product-xor}
+use Rattle.ticks.proofs.Raising.{zero-raised, raised-below}
+use Rattle.ticks.proofs.Generator.{inverse-is}
 use Rattle.ticks.proofs.TicksField.the-impl.Needs as need
 
 byte : (a : ℕ) → a % 256 < 256
@@ -47,5 +47,5 @@ laws-law =
       inverse-below = λ a ha. raised-below (a % 256) 254 (byte a);
       times-inverse = λ a ha n.
           rw (inverse-kept a) (inverse-is (a % 256) (byte a) (λ e. n (sym (kept a ha) ∙ e)));
-      inverse-zero = raised-suc 0 253 ∙ zero-product (raised 0 253);
+      inverse-zero = zero-raised 253;
     }
