@@ -5,18 +5,18 @@ use mathlib.Core.List.{List, [], _∷_}
 use mathlib.Core.Logic.{_≢_}
 use mathlib.Core.Path.{_≡_, refl, sym, _∙_, ap}
 use Prim.Native.Nat.{ℕ, zero, suc, _+_, _-_, _*_, _/_, _%_, _<_}
-use native.Mathlib.Nat.{add-zero, zero-add, suc-add, add-suc, le-of-suc-le-suc, not-suc-le-zero, div-add-mod, mod-lt}
+use native.Mathlib.Nat.{add-zero, zero-add, suc-add, add-suc, le-of-suc-le-suc, not-suc-le-zero, div-add-mod}
 use native.Mathlib.Omega.{arith}
 use lib.Dec.{T, eqb, ltb, ltb→lt, lit<}
 use lib.ListN.{getD}
 use Rattle.ticks.specs.Polynomials.{double, by-bits, product, raised}
 use Rattle.ticks.proofs.Tested.{each, at, agree, agree-at}
-use Rattle.ticks.proofs.Products.{product-below, one-product}
+use Rattle.ticks.proofs.Products.{one-product}
 use Rattle.ticks.proofs.Raising.{raised-suc, raised-below, raised-add, raised-mul, raised-swap, one-raised, one-inverse}
 
 -- ---- the powers repeat
 
-pub power-255 : raised 3 255 ≡ 1
+power-255 : raised 3 255 ≡ 1
 unfolding raised product by-bits double
 power-255 = refl
 

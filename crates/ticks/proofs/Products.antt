@@ -6,9 +6,9 @@ use Prim.Native.Nat.{ℕ, zero, suc, _*_, _/_, _%_, _<_}
 use native.Mathlib.Nat.{zero-mul, one-mul, mul-zero}
 use native.Mathlib.Omega.{arith}
 use lib.Bits.{bitXor, xor-lt, xor-comm, xor-assoc}
-use lib.Dec.{ltb, lit<, T, ltb→lt}
+use lib.Dec.{ltb, lit<, ltb→lt}
 use Rattle.ticks.specs.Polynomials.{double, by-bits, product}
-use Rattle.ticks.proofs.Tested.{each, at, agree, agree-at, agree-pairs, agree-pairs-at}
+use Rattle.ticks.proofs.Tested.{at, agree-at, agree-pairs-at}
 
 -- ---- a bit as a factor
 

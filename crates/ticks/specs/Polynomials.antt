@@ -2,10 +2,11 @@
 --   double a       x times a: one place up, less the modulus where that passes a byte
 --   by-bits n a b  a times the polynomial in the n low bits of b
 --   product a b    a times b
---   raised a n     a multiplied n times
---   ticks-field    the field: a code past a byte counts as its low byte, and an inverse is the power 254
+--   raised a n     a to the n: a multiplied n times
+--   ticks-field    the field: a code past a byte counts as its low byte, and the inverse of a is a to the 254,
+--                  since a to the 255 is 1 unless a is 0
 -- Assumes nothing.
-use mathlib.Core.Bool.{Bool, true, false}
+use mathlib.Core.Bool.{true, false}
 use Prim.Native.Nat.{ℕ, zero, suc, _*_, _/_, _%_}
 use lib.Bits.{bitXor}
 use lib.Dec.{ltb}

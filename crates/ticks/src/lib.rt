@@ -13,6 +13,10 @@ mod tables;
 use tables::LOGARITHMS;
 use tables::POWERS;
 
+const SIZE: u32 = 256;
+
+const KIND: u8 = 2;
+
 pub struct Ticks;
 
 // The table of the powers of 3.
@@ -78,11 +82,11 @@ pub impl Field for Ticks as TicksField {
     ghost model = { ticks-field };
 
     fn size() -> u32 {
-        256
+        SIZE
     }
 
     fn kind() -> u8 {
-        2
+        KIND
     }
 
     fn add(a: Element, b: Element) -> Element {

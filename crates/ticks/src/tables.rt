@@ -1,4 +1,5 @@
-// The powers of 3, and their logarithms.
+// The powers of 3 among the bytes, and their logarithms.
+
 // The power k stands at k; power 255 would be 1 again.
 pub const POWERS: [u8; 255] = [
     0x01,

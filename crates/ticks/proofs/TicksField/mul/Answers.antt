@@ -1,7 +1,6 @@
 -- A product with 0 is 0.
 use mathlib.Core.Logic.{inl, inr}
 use mathlib.Core.Path.{_≡_, sym, _∙_, ap, ap₂}
-use Prim.Native.Nat.{ℕ, _%_}
 use lib.Dec.{lit<}
 use Rattle.ticks.specs.Polynomials.{product}
 use Rattle.ticks.proofs.Products.{zero-product, product-zero}

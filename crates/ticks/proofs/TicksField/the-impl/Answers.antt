@@ -1,5 +1,5 @@
 -- The laws of the field, from those of the exclusive or, of the product and of the powers.
-use mathlib.Core.Path.{_≡_, refl, sym, _∙_, ap, ap₂}
+use mathlib.Core.Path.{_≡_, sym, _∙_}
 use Prim.Native.Nat.{ℕ, _%_, _<_}
 use native.Mathlib.Nat.{mod-lt, mod-eq-of-lt}
 use lib.Bits.{bitXor, xor-lt, xor-comm, xor-assoc, xor-self}
