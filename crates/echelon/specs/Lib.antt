@@ -1,0 +1,5 @@
+pub mod Rows
+pub mod Reduced
+pub mod Elimination
+pub mod Witness
+pub mod Theorems
