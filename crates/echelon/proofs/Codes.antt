@@ -1,13 +1,13 @@
--- Codes as elements of a field whose laws have no premises: field-of, elt; sums of codes as totals: elt-sum, sum-along.
+-- Codes as elements of a field whose laws have no premises: field-of, elt; sums of codes as totals: elt-sum, elt-sum-along, sum-one, sum-two.
 -- Assumes nothing.
 use mathlib.Core.Path.{_≡_, refl, sym, ap, ap₂, _∙_}
-use mathlib.Core.Logic.{_≢_}
+use mathlib.Core.Logic.{_≢_, _⊎_, inl, inr}
 use Prim.Native.Nat.{ℕ, zero, suc, _<_, Fin}
 use native.Mathlib.Decide.{Fin·val-path, decLt}
 use native.Mathlib.Omega.{arith}
 use Rattle.field.specs.Model.{FieldModel, FieldLaws}
 use Rattle.echelon.specs.Rows.{Vector, Codes, minus, sum}
-use Rattle.echelon.proofs.Field.{Field, total, total-cong, total-linear, table-linear}
+use Rattle.echelon.proofs.Field.{Field, total, total-cong, total-linear, table-linear, one-term, two-terms, zero-times, times-zero, zero-right, total-zero}
 
 -- sum looks at the n members alone
 pub sum-cong :
@@ -113,6 +113,10 @@ module _ (M : FieldModel) (L : FieldLaws M) where
   pub one-nonzero : one ≢ zer
   one-nonzero e = elt-nonzero 1 one-code (omega arith) (elt-one ∙ e)
 
+  pub opposite-zero : (a : ℕ) → a < M .size → M .opposite a ≡ 0 → a ≡ 0
+  opposite-zero a h e =
+      sym (L .plus-zero a h) ∙ L .plus-comm 0 a zero-code h ∙ ap (M .plus a) (sym e) ∙ L .plus-opposite a h
+
   pub sum-below : (n : ℕ) (r t : Vector) → Codes M n r → Codes M n t → sum M n r t < M .size
   unfolding sum
   sum-below zero r t cr ct = zero-code
@@ -153,3 +157,38 @@ module _ (M : FieldModel) (L : FieldLaws M) where
         (λ m b. ap (λ x. elt (r m) ⊗ x) (elt-along t c d ct hc cd m b) ∙ table-linear field-of (elt (r m)) (elt (t m)) (elt (d m)) (elt c))
         ∙ total-linear field-of n (elt c) (λ m. elt (r m) ⊗ elt (t m)) (λ m. elt (r m) ⊗ elt (d m))
         ∙ sym (ap₂ (λ x y. x ⊕ (elt c ⊗ y)) (elt-sum n r t cr ct) (elt-sum n r d cr cd))
+
+    -- a member at which the row or the table is 0 adds nothing
+    no-term : (r t : Vector) (m : ℕ) → (r m ≡ 0) ⊎ (t m ≡ 0) → elt (r m) ⊗ elt (t m) ≡ zer
+    no-term r t m (inl e) = ap (λ x. elt x ⊗ elt (t m)) e ∙ ap (λ x. x ⊗ elt (t m)) elt-zero ∙ zero-times field-of (elt (t m))
+    no-term r t m (inr e) = ap (λ x. elt (r m) ⊗ elt x) e ∙ ap (λ x. elt (r m) ⊗ x) elt-zero ∙ times-zero field-of (elt (r m))
+
+    pub sum-one :
+        (r t : Vector) → Codes M n r → Codes M n t → (j : ℕ) → j < n → ((m : ℕ) → m < n → m ≢ j → (r m ≡ 0) ⊎ (t m ≡ 0))
+        → elt (sum M n r t) ≡ elt (r j) ⊗ elt (t j)
+    sum-one r t cr ct j b rest =
+        elt-sum n r t cr ct ∙ one-term field-of n j (λ m. elt (r m) ⊗ elt (t m)) b (λ m h p. no-term r t m (rest m h p))
+
+    pub sum-two :
+        (r t : Vector) → Codes M n r → Codes M n t → (j k : ℕ) → j < n → k < n → j ≢ k
+        → ((m : ℕ) → m < n → m ≢ j → m ≢ k → (r m ≡ 0) ⊎ (t m ≡ 0))
+        → elt (sum M n r t) ≡ (elt (r j) ⊗ elt (t j)) ⊕ (elt (r k) ⊗ elt (t k))
+    sum-two r t cr ct j k b b′ apart rest =
+        elt-sum n r t cr ct ∙ two-terms field-of n j k (λ m. elt (r m) ⊗ elt (t m)) b b′ apart (λ m h p q. no-term r t m (rest m h p q))
+
+    pub sum-zero : (r : Vector) → Codes M n r → sum M n r (λ m. 0) ≡ 0
+    sum-zero r cr =
+        let nothing : Codes M n (λ m. 0) = λ m b. zero-code in
+        elt-path (sum M n r (λ m. 0)) 0 (sum-below n r (λ m. 0) cr nothing) zero-code
+        (elt-sum n r (λ m. 0) cr nothing ∙ total-zero field-of n (λ m. elt (r m) ⊗ elt 0) (λ m b. no-term r (λ x. 0) m (inr refl)) ∙ sym elt-zero)
+
+    -- a table over which the row has the sum 0 does not change the sum
+    pub sum-along :
+        (r t : Vector) (c : ℕ) (d : Vector) → Codes M n r → Codes M n t → c < M .size → Codes M n d
+        → sum M n r d ≡ 0 → sum M n r (along t c d) ≡ sum M n r t
+    sum-along r t c d cr ct hc cd none =
+        elt-path (sum M n r (along t c d)) (sum M n r t) (sum-below n r (along t c d) cr (along-codes t c d ct hc cd)) (sum-below n r t cr ct)
+        (elt-sum-along r t c d cr ct hc cd
+        ∙ ap (λ x. elt (sum M n r t) ⊕ (elt c ⊗ x)) (ap elt none ∙ elt-zero)
+        ∙ ap (λ x. elt (sum M n r t) ⊕ x) (times-zero field-of (elt c))
+        ∙ zero-right field-of (elt (sum M n r t)))

@@ -85,6 +85,18 @@ module _ (F : Field) where
       back : (x : Elt) → inv a ⊗ (a ⊗ x) ≡ x
       back x = sym (times-assoc (inv a) a x) ∙ ap (λ y. y ⊗ x) (times-comm (inv a) a ∙ times-inv a h) ∙ times-one x
 
+  pub take-back : (a b : Elt) → a ⊕ neg (a ⊕ neg b) ≡ b
+  take-back a b =
+      let d = a ⊕ neg b in
+      plus-cancel d (a ⊕ neg d) b
+      (plus-left-comm d a (neg d) ∙ ap (λ x. a ⊕ x) (plus-neg d ∙ sym (plus-neg b) ∙ plus-comm b (neg b)) ∙ sym (plus-assoc a (neg b) b))
+
+  pub share-back : (a b : Elt) → b ≢ zer → (a ⊗ inv b) ⊗ neg b ≡ neg a
+  share-back a b h =
+      times-assoc a (inv b) (neg b)
+      ∙ ap (λ x. a ⊗ x) (times-comm (inv b) (neg b) ∙ neg-times b (inv b) ∙ ap neg (times-inv b h))
+      ∙ times-neg-one a
+
   -- a combination, times a value and in a sum
   pub row-linear : (a b c t : Elt) → (a ⊕ (c ⊗ b)) ⊗ t ≡ (a ⊗ t) ⊕ (c ⊗ (b ⊗ t))
   row-linear a b c t = simp (distributes-right, times-assoc)

@@ -1,2 +1,4 @@
 pub mod Field
 pub mod Codes
+pub mod Indexed
+pub mod Tables
