@@ -62,7 +62,7 @@ abbrev look : (Pivoted → ℕ) → List Pivoted → ℕ → ℕ → ℕ
 look f [] d m = d
 look f (e ∷ rec) d m = elim (eqb (e .pivot) m) [ true ↦ f e | false ↦ look f rec d m ]
 
-by-test : (b : Bool) (x y z : ℕ) → (T b → x ≡ z) → ((T b → ⊥) → y ≡ z) → (elim b [ true ↦ x | false ↦ y ]) ≡ z
+pub by-test : {A : Type 0} (b : Bool) (x y z : A) → (T b → x ≡ z) → ((T b → ⊥) → y ≡ z) → (elim b [ true ↦ x | false ↦ y ]) ≡ z
 by-test true x y z p q = p tt
 by-test false x y z p q = q (λ t. t)
 

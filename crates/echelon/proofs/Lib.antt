@@ -2,3 +2,4 @@ pub mod Field
 pub mod Codes
 pub mod Indexed
 pub mod Tables
+pub mod Values
