@@ -176,11 +176,10 @@ module _ (M : FieldModel) (L : FieldLaws M) where
     sum-two r t cr ct j k b b′ apart rest =
         elt-sum n r t cr ct ∙ two-terms field-of n j k (λ m. elt (r m) ⊗ elt (t m)) b b′ apart (λ m h p q. no-term r t m (rest m h p q))
 
-    pub sum-zero : (r : Vector) → Codes M n r → sum M n r (λ m. 0) ≡ 0
-    sum-zero r cr =
-        let nothing : Codes M n (λ m. 0) = λ m b. zero-code in
-        elt-path (sum M n r (λ m. 0)) 0 (sum-below n r (λ m. 0) cr nothing) zero-code
-        (elt-sum n r (λ m. 0) cr nothing ∙ total-zero field-of n (λ m. elt (r m) ⊗ elt 0) (λ m b. no-term r (λ x. 0) m (inr refl)) ∙ sym elt-zero)
+    pub sum-none : (r t : Vector) → Codes M n r → Codes M n t → ((m : ℕ) → m < n → (r m ≡ 0) ⊎ (t m ≡ 0)) → sum M n r t ≡ 0
+    sum-none r t cr ct rest =
+        elt-path (sum M n r t) 0 (sum-below n r t cr ct) zero-code
+        (elt-sum n r t cr ct ∙ total-zero field-of n (λ m. elt (r m) ⊗ elt (t m)) (λ m b. no-term r t m (rest m b)) ∙ sym elt-zero)
 
     -- a table over which the row has the sum 0 does not change the sum
     pub sum-along :

@@ -3,3 +3,4 @@ pub mod Codes
 pub mod Indexed
 pub mod Tables
 pub mod Values
+pub mod Leftover

@@ -13,7 +13,7 @@ use Rattle.echelon.specs.Reduced.{Pivoted, at, all-figured, Reduced, Alone}
 use Rattle.echelon.specs.Witness.{Free, base, direction, Leads, from-free, from-pivot, Witness, LowestFree}
 use Rattle.echelon.specs.Theorems.{Base-fits, Direction-free, Witness-fits, Pinned-alone}
 use Rattle.echelon.proofs.Field.{Field, plus-cancel, zero-right, times-zero, one-right, times-cancel, neg-zero, difference-zero, neg-times, neg-away, plus-left-comm, times-left-comm, take-back, share-back}
-use Rattle.echelon.proofs.Codes.{field-of, elt, elt-path, elt-zero, elt-one, elt-plus, elt-times, elt-opposite, elt-minus, elt-inverse, elt-nonzero, one-nonzero, zero-code, one-code, sum-below, along, along-codes, elt-along, elt-sum-along, sum-one, sum-two, sum-cong, minus-below, sum-along, sum-zero, opposite-zero}
+use Rattle.echelon.proofs.Codes.{field-of, elt, elt-path, elt-zero, elt-one, elt-plus, elt-times, elt-opposite, elt-minus, elt-inverse, elt-nonzero, one-nonzero, zero-code, one-code, sum-below, along, along-codes, elt-along, elt-sum-along, sum-one, sum-two, sum-cong, minus-below, sum-along, sum-none, opposite-zero}
 use Rattle.echelon.proofs.Indexed.{find, fits-at, at-fits, agree-at, at-agree, pivot-or-free, Distinct, base-free, base-pivot, direction-self, direction-other, direction-pivot}
 
 module _ (M : FieldModel) (L : FieldLaws M) (n : ℕ) (rec : List Pivoted) (R : Reduced M n rec) where
@@ -118,18 +118,24 @@ module _ (M : FieldModel) (L : FieldLaws M) (n : ℕ) (rec : List Pivoted) (R : 
       (elt-along M L n (base rec) c d base-codes hc cd i below ∙ ap (λ x. elt M L (base rec i) ⊕ x) back
       ∙ take-back (field-of M L) (elt M L (base rec i)) (elt M L a)))
 
-  -- a table over which every row has the sum 0 agrees with the table of zeros
-  pub agree-zero :
-      (d : Vector) → ((a : ℕ) → a < length rec → sum M n (at rec a .weights) d ≡ 0) → Agree M n (rows-of (all-figured rec)) (λ m. 0) d
-  agree-zero d none = at-agree M n rec (λ m. 0) d (λ a b. sum-zero M L n (at rec a .weights) (R .weights-codes a b) ∙ sym (none a b))
+  pub zeros-codes : Codes M n (λ m. 0)
+  zeros-codes m b = zero-code M L
+
+  pub zeros-sum : (r : Vector) → Codes M n r → sum M n r (λ m. 0) ≡ 0
+  zeros-sum r cr = sum-none M L n r (λ m. 0) cr zeros-codes (λ m b. inr refl)
+
+  -- N(j) agrees with the table of zeros
+  pub direction-agrees : (j : ℕ) → j < n → Free rec j → Agree M n (rows-of (all-figured rec)) (λ m. 0) (direction M rec j)
+  direction-agrees j below free =
+      at-agree M n rec (λ m. 0) (direction M rec j)
+      (λ a b. zeros-sum (at rec a .weights) (R .weights-codes a b) ∙ sym (direction-sum j below free a b))
 
   pins-row : (i : ℕ) → i < n → Pins M n (rows-of (all-figured rec)) i → (a : ℕ) × (a < length rec) × Alone n (at rec a .weights) i
   pins-row i below pins = from (pivot-or-free rec i)
     where
       still : (j : ℕ) → j < n → Free rec j → direction M rec j i ≡ 0
       still j h free =
-          let d = direction M rec j in
-          sym (pins (λ m. 0) d (λ m b. zero-code M L) (direction-codes j h) (agree-zero d (direction-sum j h free)))
+          sym (pins (λ m. 0) (direction M rec j) zeros-codes (direction-codes j h) (direction-agrees j h free))
       from : ((x : ℕ) × (x < length rec) × (at rec x .pivot ≡ i)) ⊎ Free rec i → (a : ℕ) × (a < length rec) × Alone n (at rec a .weights) i
       from (inl (a, b, e)) =
           let w = at rec a .weights in

@@ -1,5 +1,5 @@
 -- What a row with its figure comes to over a table of elements: value. It is linear, so what is left over keeps it: leftover-value.
--- fit-value and agree-value read a fit and an agreement as a value of 0. Then fixed-leaves-nothing, leftover-fits.
+-- fit-value and agree-value read a fit and an agreement as a value of 0.
 -- Assumes nothing.
 use mathlib.Core.Path.{_≡_, refl, sym, ap, ap₂, subst, _∙_}
 use mathlib.Core.Logic.{_≢_, _⊎_, inl, inr, _↔_}
@@ -13,7 +13,7 @@ use Rattle.field.specs.Model.{FieldModel, FieldLaws}
 use Rattle.echelon.specs.Rows.{Vector, Codes, minus, sum, Figured}
 use Rattle.echelon.specs.Reduced.{Pivoted, figured, at, Reduced}
 use Rattle.echelon.specs.Elimination.{cleared, leftover, scaled}
-use Rattle.echelon.proofs.Field.{Field, total, total-cong, total-linear, total-zero, one-term, plus-linear, row-linear, table-linear, zero-right, times-zero, zero-times, one-right, times-neg-one, neg-times, difference-zero}
+use Rattle.echelon.proofs.Field.{Field, total, total-cong, total-linear, total-zero, one-term, plus-linear, row-linear, table-linear, zero-right, times-zero, zero-times, one-right, times-neg-one, neg-times, neg-zero, difference-zero}
 use Rattle.echelon.proofs.Codes.{field-of, elt, elt-path, elt-zero, elt-one, elt-times, elt-minus, zero-code, sum-below, elt-sum, minus-below}
 use Rattle.echelon.proofs.Indexed.{by-test}
 
@@ -63,6 +63,27 @@ module _ (M : FieldModel) (L : FieldLaws M) (n : ℕ) where
 
   pub less-below : (a b c : ℕ) → a < M .size → b < M .size → c < M .size → minus M a (M .times b c) < M .size
   less-below a b c ha hb hc = minus-below M L a (M .times b c) ha (L .times-below b c hb hc)
+
+  -- a product with 0 takes nothing away, and an element taken away from itself leaves 0
+  pub less-none : (a b c : ℕ) → a < M .size → b < M .size → c < M .size → (b ≡ 0) ⊎ (c ≡ 0) → minus M a (M .times b c) ≡ a
+  less-none a b c ha hb hc none =
+      let F = field-of M L in
+      let gone : (b ≡ 0) ⊎ (c ≡ 0) → neg (elt M L b) ⊗ elt M L c ≡ zer =
+        elim [
+          inl e ↦ neg-times F (elt M L b) (elt M L c) ∙ ap (λ x. neg (x ⊗ elt M L c)) (ap (elt M L) e ∙ elt-zero M L) ∙ ap neg (zero-times F (elt M L c)) ∙ neg-zero F
+          | inr e ↦ ap (λ x. neg (elt M L b) ⊗ x) (ap (elt M L) e ∙ elt-zero M L) ∙ times-zero F (neg (elt M L b))
+        ]
+      in
+      elt-path M L (minus M a (M .times b c)) a (less-below a b c ha hb hc) ha
+      (elt-less a b c ha hb hc ∙ ap (λ x. elt M L a ⊕ x) (gone none) ∙ zero-right F (elt M L a))
+
+  pub less-self : (a c : ℕ) → a < M .size → c < M .size → c ≡ 1 → minus M a (M .times a c) ≡ 0
+  less-self a c ha hc e =
+      elt-path M L (minus M a (M .times a c)) 0 (less-below a a c ha ha hc) (zero-code M L)
+      (elt-less a a c ha ha hc
+      ∙ ap (λ x. elt M L a ⊕ (neg (elt M L a) ⊗ x)) (ap (elt M L) e ∙ elt-one M L)
+      ∙ ap (λ x. elt M L a ⊕ x) (one-right (field-of M L) (neg (elt M L a)))
+      ∙ plus-neg (elt M L a) ∙ sym (elt-zero M L))
 
   pub cleared-codes : (e : Pivoted) (g : Figured) → FigCodes M n (figured e) → e .pivot < n → FigCodes M n g → FigCodes M n (cleared M e g)
   cleared-codes e g ce below cg =
@@ -124,10 +145,10 @@ module _ (M : FieldModel) (L : FieldLaws M) (n : ℕ) where
       ∙ zero-right (field-of M L) (value t y g)
 
   -- the table with one at q alone reads the weight at q
-  abbrev tip : ℕ → ℕ → Elt
+  abbrev pub tip : ℕ → ℕ → Elt
   tip q m = elim (eqb m q) [ true ↦ one | false ↦ zer ]
 
-  tip-value : (q : ℕ) → q < n → (g : Figured) → value (tip q) zer g ≡ elt M L (g .row q)
+  pub tip-value : (q : ℕ) → q < n → (g : Figured) → value (tip q) zer g ≡ elt M L (g .row q)
   unfolding value
   tip-value q below g =
       let F = field-of M L in
