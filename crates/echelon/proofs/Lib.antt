@@ -4,3 +4,4 @@ pub mod Indexed
 pub mod Tables
 pub mod Values
 pub mod Leftover
+pub mod Joined
