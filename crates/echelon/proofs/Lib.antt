@@ -5,3 +5,4 @@ pub mod Tables
 pub mod Values
 pub mod Leftover
 pub mod Joined
+pub mod Unique
