@@ -6,3 +6,4 @@ pub mod Values
 pub mod Leftover
 pub mod Joined
 pub mod Unique
+pub mod Forms

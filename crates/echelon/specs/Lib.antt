@@ -3,3 +3,4 @@ pub mod Reduced
 pub mod Elimination
 pub mod Witness
 pub mod Theorems
+pub mod Coded
