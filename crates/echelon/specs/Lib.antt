@@ -1,0 +1,6 @@
+pub mod Rows
+pub mod Reduced
+pub mod Elimination
+pub mod Witness
+pub mod Theorems
+pub mod Coded
