@@ -56,9 +56,9 @@ module _ (M : FieldModel) (L : FieldLaws M) where
   }
 
   open Field field-of using (Elt, zer, one, _⊕_, _⊗_, neg, inv)
+
   infixl 60 _⊕_
   infixl 70 _⊗_
-
   -- the element with this code, and 0 for a number that is no code
   pub elt : ℕ → Elt
   unfolding field-of

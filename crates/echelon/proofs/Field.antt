@@ -28,9 +28,9 @@ pub record Field : Type 1 where
 
 module _ (F : Field) where
   open Field F using (Elt, zer, one, _⊕_, _⊗_, neg, inv, plus-comm, plus-assoc, plus-zero, times-comm, times-assoc, times-one, distributes, plus-neg, times-inv)
+
   infixl 60 _⊕_
   infixl 70 _⊗_
-
   pub zero-right : (a : Elt) → a ⊕ zer ≡ a
   zero-right a = plus-comm a zer ∙ plus-zero a
 
@@ -127,10 +127,10 @@ module _ (F : Field) where
   one-term zero j f below e = absurd (omega arith)
   one-term (suc n) j f below e =
       let at-end : n ≡ j → total n f ⊕ f n ≡ f j =
-        λ p. ap₂ _⊕_ (total-zero n f (λ m b. e m (omega arith) (omega arith))) (ap f p) ∙ plus-zero (f j)
+      λ p. ap₂ _⊕_ (total-zero n f (λ m b. e m (omega arith) (omega arith))) (ap f p) ∙ plus-zero (f j)
       in
       let before : n ≢ j → total n f ⊕ f n ≡ f j =
-        λ p. ap₂ _⊕_ (one-term n j f (omega arith) (λ m b. e m (omega arith))) (e n (omega arith) p) ∙ zero-right (f j)
+      λ p. ap₂ _⊕_ (one-term n j f (omega arith) (λ m b. e m (omega arith))) (e n (omega arith) p) ∙ zero-right (f j)
       in
       elim (ℕ-discrete n j) [ yes p ↦ at-end p | no p ↦ before p ]
 
@@ -138,12 +138,12 @@ module _ (F : Field) where
   two-terms zero j k f below below′ apart e = absurd (omega arith)
   two-terms (suc n) j k f below below′ apart e =
       let at-first : n ≡ j → total n f ⊕ f n ≡ f j ⊕ f k =
-        λ p. ap₂ _⊕_ (one-term n k f (omega arith) (λ m b q. e m (omega arith) (omega arith) q)) (ap f p) ∙ plus-comm (f k) (f j)
+      λ p. ap₂ _⊕_ (one-term n k f (omega arith) (λ m b q. e m (omega arith) (omega arith) q)) (ap f p) ∙ plus-comm (f k) (f j)
       in
       let at-second : n ≡ k → total n f ⊕ f n ≡ f j ⊕ f k =
-        λ p. ap₂ _⊕_ (one-term n j f (omega arith) (λ m b q. e m (omega arith) q (omega arith))) (ap f p)
+      λ p. ap₂ _⊕_ (one-term n j f (omega arith) (λ m b q. e m (omega arith) q (omega arith))) (ap f p)
       in
       let before : n ≢ j → n ≢ k → total n f ⊕ f n ≡ f j ⊕ f k =
-        λ p q. ap₂ _⊕_ (two-terms n j k f (omega arith) (omega arith) apart (λ m b. e m (omega arith))) (e n (omega arith) p q) ∙ zero-right (f j ⊕ f k)
+      λ p q. ap₂ _⊕_ (two-terms n j k f (omega arith) (omega arith) apart (λ m b. e m (omega arith))) (e n (omega arith) p q) ∙ zero-right (f j ⊕ f k)
       in
       elim (ℕ-discrete n j) [ yes p ↦ at-first p | no p ↦ elim (ℕ-discrete n k) [ yes q ↦ at-second q | no q ↦ before p q ] ]

@@ -29,8 +29,8 @@ module _ (M : FieldModel) (n : ℕ) where
       let x = sum M n (g .row) t in
       let y = sum M n (g .row) u in
       let apart : (x ≡ y → ⊥) → ⊥ = λ d.
-        let loose : Fixes M n (rows-of given) (g .row) → ⊥ = λ fixes. d (fixes t u ct cu rest) in
-        d (ft .0 loose ∙ sym (fu .0 loose))
+      let loose : Fixes M n (rows-of given) (g .row) → ⊥ = λ fixes. d (fixes t u ct cu rest) in
+      d (ft .0 loose ∙ sym (fu .0 loose))
       in
       (elim (ℕ-discrete x y) [ yes e ↦ e | no d ↦ absurd (apart d) ], rest)
 
@@ -51,9 +51,9 @@ module _ (M : FieldModel) (n : ℕ) where
 
 module _ (M : FieldModel) (L : FieldLaws M) (n : ℕ) (b t u : Vector) (cb : Codes M n b) (ct : Codes M n t) (cu : Codes M n u) where
   open Field (field-of M L) using (zer, one, _⊕_, _⊗_, neg, plus-assoc, plus-neg, times-one)
+
   infixl 60 _⊕_
   infixl 70 _⊗_
-
   -- the table b, and the difference of t and u
   abbrev moved : Vector
   moved = along M L (along M L b 1 t) (M .opposite 1) u
@@ -84,13 +84,14 @@ module _ (M : FieldModel) (L : FieldLaws M) (n : ℕ) (b t u : Vector) (cb : Cod
       let x = elt M L (sum M n r b) in
       let y = elt M L (sum M n r t) in
       let z = elt M L (sum M n r u) in
-      let below : (v : Vector) → Codes M n v → sum M n r v < M .size = λ v cv. sum-below M L n r v cr cv in
-      (λ e.
-        elt-path M L (sum M n r b) (sum M n r moved) (below b cb) (below moved moved-codes)
-        (sym (moved-sum r cr ∙ ap (λ i. x ⊕ (elt M L i ⊕ neg z)) e ∙ ap (λ i. x ⊕ i) (plus-neg z) ∙ zero-right F x)),
-      λ e.
-        elt-path M L (sum M n r t) (sum M n r u) (below t ct) (below u cu)
-        (difference-zero F y z (plus-cancel F x (y ⊕ neg z) zer (sym (moved-sum r cr) ∙ ap (elt M L) (sym e) ∙ sym (zero-right F x)))))
+      let below : (v : Vector) → Codes M n v → sum M n r v < M .size = λ v cv. sum-below M L n r v cr cv in (
+        λ e.
+            elt-path M L (sum M n r b) (sum M n r moved) (below b cb) (below moved moved-codes)
+            (sym (moved-sum r cr ∙ ap (λ i. x ⊕ (elt M L i ⊕ neg z)) e ∙ ap (λ i. x ⊕ i) (plus-neg z) ∙ zero-right F x)),
+        λ e.
+            elt-path M L (sum M n r t) (sum M n r u) (below t ct) (below u cu)
+            (difference-zero F y z (plus-cancel F x (y ⊕ neg z) zer (sym (moved-sum r cr) ∙ ap (elt M L) (sym e) ∙ sym (zero-right F x)))),
+      )
 
   moved-to : (rows : List Vector) → RowsCodes M n rows → Agree M n rows t u → Agree M n rows b moved
   moved-to [] codes agree = tt
@@ -107,18 +108,19 @@ form-agrees M L n given rec G codes t u ct cu =
     let w = moved M L n B t u cb ct cu in
     let cw = moved-codes M L n B t u cb ct cu in
     let gb = G .given-fits B cb fb in
-    let rows = record-rows M n rec (G .reduced .weights-codes) in
-    (λ agree.
-      let fw = G .fits w cw (agree-given M n given B w (moved-to M L n B t u cb ct cu (rows-of given) codes agree) gb) in
-      moved-from M L n B t u cb ct cu (rows-of (all-figured rec)) rows (fits-agree M n rec B w fb fw),
-    λ agree.
-      let fw = agree-fits M n rec B w (moved-to M L n B t u cb ct cu (rows-of (all-figured rec)) rows agree) fb in
-      moved-from M L n B t u cb ct cu (rows-of given) codes (given-agree M n given B w cb cw gb (G .given-fits w cw fw)))
+    let rows = record-rows M n rec (G .reduced .weights-codes) in (
+      λ agree.
+          let fw = G .fits w cw (agree-given M n given B w (moved-to M L n B t u cb ct cu (rows-of given) codes agree) gb) in
+          moved-from M L n B t u cb ct cu (rows-of (all-figured rec)) rows (fits-agree M n rec B w fb fw),
+      λ agree.
+          let fw = agree-fits M n rec B w (moved-to M L n B t u cb ct cu (rows-of (all-figured rec)) rows agree) fb in
+          moved-from M L n B t u cb ct cu (rows-of given) codes (given-agree M n given B w cb cw gb (G .given-fits w cw fw)),
+    )
 
 pub form-kept : Coded-form-kept
 form-kept M L n given rec G codes g fixes =
     let known : Fixes M n (rows-of given) (g .row) =
-      λ t u ct cu agree. fixes t u ct cu (form-agrees M L n given rec G codes t u ct cu .0 agree)
+    λ t u ct cu agree. fixes t u ct cu (form-agrees M L n given rec G codes t u ct cu .0 agree)
     in
     record {
       reduced = G .reduced;
@@ -132,11 +134,11 @@ form-grown M L n given rec rec′ G g free R′ both =
     let B = base rec′ in
     let (eb, rb) = both B cb .0 fb in
     let figure : (t : Vector) → Codes M n t → FitsGiven M n (g ∷ given) t → sum M n (g .row) t ≡ g .figure =
-      λ t ct f.
-        let known : Fixes M n (rows-of given) (g .row) → sum M n (g .row) t ≡ g .figure =
-          λ fixes. fixes t B ct cb (given-agree M n given t B ct cb (f .1) (G .given-fits B cb rb)) ∙ eb
-        in
-        elim (ℕ-discrete (sum M n (g .row) t) (g .figure)) [ yes e ↦ e | no d ↦ f .0 (λ fixes. d (known fixes)) ]
+    λ t ct f.
+    let known : Fixes M n (rows-of given) (g .row) → sum M n (g .row) t ≡ g .figure =
+    λ fixes. fixes t B ct cb (given-agree M n given t B ct cb (f .1) (G .given-fits B cb rb)) ∙ eb
+    in
+    elim (ℕ-discrete (sum M n (g .row) t) (g .figure)) [ yes e ↦ e | no d ↦ f .0 (λ fixes. d (known fixes)) ]
     in
     record {
       reduced = R′;

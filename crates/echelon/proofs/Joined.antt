@@ -74,15 +74,15 @@ module _ (f : Pivoted → Pivoted) (x : Pivoted) where
   kept-spot : (k : ℕ) (rec : List Pivoted) → k ≤ length rec → (a : ℕ) → a < length rec → (b : ℕ) × (b < length (put f x k rec)) × (at (put f x k rec) b ≡ f (at rec a))
   kept-spot k rec h a l =
       elim (decLt a k) [
-        yes p ↦ (a, omega (arith, put-length k rec h), put-low k rec h a p)
+        | yes p ↦ (a, omega (arith, put-length k rec h), put-low k rec h a p)
         | no p ↦ (suc a, omega (arith, put-length k rec h), put-high k rec h a (omega arith) l)
       ]
 
 module _ (M : FieldModel) (L : FieldLaws M) (n : ℕ) (rec : List Pivoted) (R : Reduced M n rec) (g : Figured) (cg : FigCodes M n g) (p k : ℕ) (below : p < n) (named : leftover M rec g .row p ≢ 0) (lowest : (m : ℕ) → m < p → leftover M rec g .row m ≡ 0) (within : k ≤ length rec) (before : (a : ℕ) → a < k → at rec a .pivot < p) (after : (a : ℕ) → k ≤ a → a < length rec → p < at rec a .pivot) where
   open Field (field-of M L) using (Elt, zer, one, _⊕_, _⊗_, neg, times-comm, times-inv)
+
   infixl 60 _⊕_
   infixl 70 _⊗_
-
   abbrev left : Figured
   left = leftover M rec g
 
@@ -135,10 +135,10 @@ module _ (M : FieldModel) (L : FieldLaws M) (n : ℕ) (rec : List Pivoted) (R : 
   row-low : (a m : ℕ) → a < length rec → m < at rec a .pivot → row-of a .weights m ≡ 0
   row-low a m b h =
       let none : (at rec a .weights p ≡ 0) ⊎ (fresh .weights m ≡ 0) =
-        elim (decLt a k) [
-          yes q ↦ inr (fresh-none m (lowest m (omega (arith, before a q))))
-          | no q ↦ inl (R .lowest-named a p b (after a (omega arith) b))
-        ]
+      elim (decLt a k) [
+        | yes q ↦ inr (fresh-none m (lowest m (omega (arith, before a q))))
+        | no q ↦ inl (R .lowest-named a p b (after a (omega arith) b))
+      ]
       in
       row-same a m b (omega (arith, R .pivot-below a b)) none ∙ R .lowest-named a m b h
 
@@ -181,9 +181,9 @@ module _ (M : FieldModel) (L : FieldLaws M) (n : ℕ) (rec : List Pivoted) (R : 
     pivot-below = each (λ e. e .pivot < n) below (R .pivot-below);
     pivots-rise = λ a b l h. J-rise a b l (place a (omega arith)) (place b h);
     own-pivot = each (λ e. e .weights (e .pivot) ≡ 1) fresh-own
-    (λ a b. row-same a (at rec a .pivot) b (R .pivot-below a b) (inr (fresh-pivot a b)) ∙ R .own-pivot a b);
+        (λ a b. row-same a (at rec a .pivot) b (R .pivot-below a b) (inr (fresh-pivot a b)) ∙ R .own-pivot a b);
     lowest-named = λ a m b.
-      each (λ e. m < e .pivot → e .weights m ≡ 0) (λ h. fresh-none m (lowest m h)) (λ x l h. row-low x m l h) a b;
+        each (λ e. m < e .pivot → e .weights m ≡ 0) (λ h. fresh-none m (lowest m h)) (λ x l h. row-low x m l h) a b;
     other-pivots = λ a b h l d. J-others a b d (place a h) (place b l);
   }
 
@@ -207,7 +207,7 @@ module _ (M : FieldModel) (L : FieldLaws M) (n : ℕ) (rec : List Pivoted) (R : 
     to-kills : v g ≡ zer → Kills M L n t y rec → Kills M L n t y J
     to-kills e kills =
         let none : v (figured fresh) ≡ zer =
-          v-fresh ∙ ap (λ x. elt M L factor ⊗ x) (leftover-value M L n t y rec (all-codes M n rec R) kills g cg ∙ e) ∙ times-zero (field-of M L) (elt M L factor)
+        v-fresh ∙ ap (λ x. elt M L factor ⊗ x) (leftover-value M L n t y rec (all-codes M n rec R) kills g cg ∙ e) ∙ times-zero (field-of M L) (elt M L factor)
         in
         each (λ d. v (figured d) ≡ zer) none (λ a b. v-row-none none a b ∙ kills a b)
 
@@ -217,20 +217,21 @@ module _ (M : FieldModel) (L : FieldLaws M) (n : ℕ) (rec : List Pivoted) (R : 
         let l = left .row p in
         let hl = left-c .0 p below in
         let none : v (figured fresh) ≡ zer =
-          ap (λ d. v (figured d)) (sym (put-here (pivot-cleared M fresh) fresh k rec within))
-          ∙ kills k (omega (arith, put-length (pivot-cleared M fresh) fresh k rec within))
+        ap (λ d. v (figured d)) (sym (put-here (pivot-cleared M fresh) fresh k rec within))
+        ∙ kills k (omega (arith, put-length (pivot-cleared M fresh) fresh k rec within))
         in
         let kept : Kills M L n t y rec =
-          λ a b.
-            let (c, h, q) = kept-spot (pivot-cleared M fresh) fresh k rec within a b in
-            sym (v-row-none none a b) ∙ ap (λ d. v (figured d)) (sym q) ∙ kills c h
+        λ a b.
+        let (c, h, q) = kept-spot (pivot-cleared M fresh) fresh k rec within a b in
+        sym (v-row-none none a b) ∙ ap (λ d. v (figured d)) (sym q) ∙ kills c h
         in
         let unit : elt M L l ⊗ elt M L factor ≡ one =
-          ap (λ x. elt M L l ⊗ x) (elt-inverse M L l hl) ∙ times-inv (elt M L l) (elt-nonzero M L l hl named)
-        in
-        (sym (leftover-value M L n t y rec (all-codes M n rec R) kept g cg)
-        ∙ factor-away F (elt M L factor) (v left) (elt M L l) unit (sym v-fresh ∙ none),
-        kept)
+        ap (λ x. elt M L l ⊗ x) (elt-inverse M L l hl) ∙ times-inv (elt M L l) (elt-nonzero M L l hl named)
+        in (
+          sym (leftover-value M L n t y rec (all-codes M n rec R) kept g cg)
+              ∙ factor-away F (elt M L factor) (v left) (elt M L l) unit (sym v-fresh ∙ none),
+          kept,
+        )
 
   J-codes : AllCodes M n J
   J-codes = all-codes M n J J-reduced
@@ -239,7 +240,7 @@ module _ (M : FieldModel) (L : FieldLaws M) (n : ℕ) (rec : List Pivoted) (R : 
   J-fits t ct fits =
       let fit = fit-value M L n t ct in
       let (e, kills) =
-        from-kills (λ m. elt M L (t m)) (neg one) (λ a b. fit (figured (at J a)) (J-codes a b .0) .0 (fits-at M n J t fits a b))
+      from-kills (λ m. elt M L (t m)) (neg one) (λ a b. fit (figured (at J a)) (J-codes a b .0) .0 (fits-at M n J t fits a b))
       in
       (fit g cg .1 e, at-fits M n rec t (λ a b. fit (figured (at rec a)) (all-codes M n rec R a b .0) .1 (kills a b)))
 
@@ -247,8 +248,8 @@ module _ (M : FieldModel) (L : FieldLaws M) (n : ℕ) (rec : List Pivoted) (R : 
   fits-J t ct fits =
       let fit = fit-value M L n t ct in
       let kills =
-        to-kills (λ m. elt M L (t m)) (neg one) (fit g cg .0 (fits .0))
-        (λ a b. fit (figured (at rec a)) (all-codes M n rec R a b .0) .0 (fits-at M n rec t (fits .1) a b))
+      to-kills (λ m. elt M L (t m)) (neg one) (fit g cg .0 (fits .0))
+      (λ a b. fit (figured (at rec a)) (all-codes M n rec R a b .0) .0 (fits-at M n rec t (fits .1) a b))
       in
       at-fits M n J t (λ a b. fit (figured (at J a)) (J-codes a b .0) .1 (kills a b))
 
@@ -258,7 +259,7 @@ module _ (M : FieldModel) (L : FieldLaws M) (n : ℕ) (rec : List Pivoted) (R : 
   J-agree t u ct cu agree =
       let same = agree-value M L n t u ct cu in
       let (e, kills) =
-        from-kills (between M L n t u) zer (λ a b. same (figured (at J a)) (J-codes a b .0 .0) .0 (agree-at M n J t u agree a b))
+      from-kills (between M L n t u) zer (λ a b. same (figured (at J a)) (J-codes a b .0 .0) .0 (agree-at M n J t u agree a b))
       in
       (same g (cg .0) .1 e, at-agree M n rec t u (λ a b. same (figured (at rec a)) (R .weights-codes a b) .1 (kills a b)))
 
@@ -268,8 +269,8 @@ module _ (M : FieldModel) (L : FieldLaws M) (n : ℕ) (rec : List Pivoted) (R : 
   agree-J t u ct cu agree =
       let same = agree-value M L n t u ct cu in
       let kills =
-        to-kills (between M L n t u) zer (same g (cg .0) .0 (agree .0))
-        (λ a b. same (figured (at rec a)) (R .weights-codes a b) .0 (agree-at M n rec t u (agree .1) a b))
+      to-kills (between M L n t u) zer (same g (cg .0) .0 (agree .0))
+      (λ a b. same (figured (at rec a)) (R .weights-codes a b) .0 (agree-at M n rec t u (agree .1) a b))
       in
       at-agree M n J t u (λ a b. same (figured (at J a)) (J-codes a b .0 .0) .1 (kills a b))
 

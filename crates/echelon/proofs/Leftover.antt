@@ -20,8 +20,8 @@ use Rattle.echelon.proofs.Values.{FigCodes, AllCodes, all-codes, Kills, cleare
 
 module _ (M : FieldModel) (L : FieldLaws M) (n : ℕ) where
   open Field (field-of M L) using (zer, one, _⊗_, neg)
-  infixl 70 _⊗_
 
+  infixl 70 _⊗_
   pub leftover-pivot :
       (rec : List Pivoted) → AllCodes M n rec
       → ((a : ℕ) → a < length rec → at rec a .weights (at rec a .pivot) ≡ 1)
@@ -35,7 +35,7 @@ module _ (M : FieldModel) (L : FieldLaws M) (n : ℕ) where
       let ch = cleared-codes M L n e g ce below cg in
       let cs : AllCodes M n rec = λ a k. cr (suc a) (omega arith) in
       let kills : Kills M L n (tip M L n p) zer rec =
-        λ a k. tip-value M L n p below (figured (at rec a)) ∙ ap (elt M L) (others (suc a) 0 (omega arith) b (omega arith)) ∙ elt-zero M L
+      λ a k. tip-value M L n p below (figured (at rec a)) ∙ ap (elt M L) (others (suc a) 0 (omega arith) b (omega arith)) ∙ elt-zero M L
       in
       elt-path M L (leftover M rec h .row p) 0 (leftover-codes M L n rec cs h ch .0 p below) (zero-code M L)
       (sym (tip-value M L n p below (leftover M rec h)) ∙ leftover-value M L n (tip M L n p) zer rec cs kills h ch ∙ tip-value M L n p below h
@@ -80,11 +80,11 @@ module _ (M : FieldModel) (L : FieldLaws M) (n : ℕ) where
             let agree = direction-agrees M L n rec R m below free in
             let sums : sum M n l (λ x. 0) ≡ sum M n l d = left-agree (λ x. 0) d zc cd agree .0 (fixes (λ x. 0) d zc cd agree) in
             let rest : (x : ℕ) → x < n → x ≢ m → (l x ≡ 0) ⊎ (d x ≡ 0) =
-              λ x h q.
-                elim (pivot-or-free rec x) [
-                  inl p ↦ inl (ap l (sym (p .2)) ∙ left-pivot (p .0) (p .1))
-                  | inr f ↦ inr (direction-other M rec m x f q)
-                ]
+            λ x h q.
+            elim (pivot-or-free rec x) [
+              | inl p ↦ inl (ap l (sym (p .2)) ∙ left-pivot (p .0) (p .1))
+              | inr f ↦ inr (direction-other M rec m x f q)
+            ]
             in
             elt-path M L (l m) 0 (left-codes .0 m below) (zero-code M L)
             (sym (one-right (field-of M L) (elt M L (l m)))
@@ -104,7 +104,7 @@ module _ (M : FieldModel) (L : FieldLaws M) (n : ℕ) where
     left-fits t ct fits =
         let h = leftover M rec g in
         let kills : Kills M L n (λ m. elt M L (t m)) (neg one) rec =
-          λ a b. fit-value M L n t ct (figured (at rec a)) (all-codes M n rec R a b .0) .0 (fits a b)
+        λ a b. fit-value M L n t ct (figured (at rec a)) (all-codes M n rec R a b .0) .0 (fits a b)
         in
         elt-path M L (minus M (sum M n (g .row) t) (g .figure)) (minus M (sum M n (h .row) t) (h .figure))
         (minus-below M L (sum M n (g .row) t) (g .figure) (sum-below M L n (g .row) t (cg .0) ct) (cg .1))

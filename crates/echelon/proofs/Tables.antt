@@ -18,9 +18,9 @@ use Rattle.echelon.proofs.Indexed.{at-fits, agree-at, at-agree, pivot-or-free,
 
 module _ (M : FieldModel) (L : FieldLaws M) (n : ℕ) (rec : List Pivoted) (R : Reduced M n rec) where
   open Field (field-of M L) using (one, _⊕_, _⊗_, neg, plus-zero, times-one, plus-neg)
+
   infixl 60 _⊕_
   infixl 70 _⊗_
-
   pub distinct : Distinct rec
   distinct a b l h e = omega (arith, R .pivots-rise a b l h)
 
@@ -46,11 +46,13 @@ module _ (M : FieldModel) (L : FieldLaws M) (n : ℕ) (rec : List Pivoted) (R : 
       other : Free rec m → Dec (m ≡ j) → direction M rec j m < M .size
       other free (yes e) = omega (arith, ap (direction M rec j) e ∙ direction-self M rec j (subst (Free rec) e free), one-code M L)
       other free (no e) = omega (arith, direction-other M rec j m free e, zero-code M L)
+
       from : ((x : ℕ) × (x < length rec) × (at rec x .pivot ≡ m)) ⊎ Free rec m → direction M rec j m < M .size
       from (inl (x, h, e)) =
           omega (
-          arith, ap (direction M rec j) (sym e) ∙ direction-pivot M rec distinct j x h,
-          L .opposite-below (at rec x .weights j) (R .weights-codes x h j below)
+            arith,
+            ap (direction M rec j) (sym e) ∙ direction-pivot M rec distinct j x h,
+            L .opposite-below (at rec x .weights j) (R .weights-codes x h j below),
           )
       from (inr free) = other free (ℕ-discrete m j)
 
@@ -59,7 +61,7 @@ module _ (M : FieldModel) (L : FieldLaws M) (n : ℕ) (rec : List Pivoted) (R : 
       let w = at rec a .weights in
       let p = at rec a .pivot in
       let rest : (m : ℕ) → m < n → m ≢ p → (w m ≡ 0) ⊎ (base rec m ≡ 0) =
-        λ m h q. elim (beside a m b q) [ inl z ↦ inl z | inr free ↦ inr (base-free rec m free) ]
+      λ m h q. elim (beside a m b q) [ inl z ↦ inl z | inr free ↦ inr (base-free rec m free) ]
       in
       elt-path M L (sum M n w (base rec)) (at rec a .figure) (sum-below M L n w (base rec) (R .weights-codes a b) base-codes) (R .figure-code a b)
       (sum-one M L n w (base rec) (R .weights-codes a b) base-codes p (R .pivot-below a b) rest
@@ -73,7 +75,7 @@ module _ (M : FieldModel) (L : FieldLaws M) (n : ℕ) (rec : List Pivoted) (R : 
       let d = direction M rec j in
       let cw = R .weights-codes a b in
       let rest : (m : ℕ) → m < n → m ≢ j → m ≢ p → (w m ≡ 0) ⊎ (d m ≡ 0) =
-        λ m h i q. elim (beside a m b q) [ inl z ↦ inl z | inr f ↦ inr (direction-other M rec j m f i) ]
+      λ m h i q. elim (beside a m b q) [ inl z ↦ inl z | inr f ↦ inr (direction-other M rec j m f i) ]
       in
       elt-path M L (sum M n w d) 0 (sum-below M L n w d cw (direction-codes j below)) (zero-code M L)
       (sum-two M L n w d cw (direction-codes j below) j p below (R .pivot-below a b) (λ e. free a b (sym e)) rest
@@ -90,13 +92,16 @@ module _ (M : FieldModel) (L : FieldLaws M) (n : ℕ) (rec : List Pivoted) (R : 
       → (j < n) × Free rec j × (c < M .size) × (along M L (base rec) c (direction M rec j) i ≡ a)
   led i a below ha (from-free free) =
       let d = direction M rec i in
-      let cd = direction-codes i below in
-      (below, free, ha,
-      elt-path M L (along M L (base rec) a d i) a (along-codes M L n (base rec) a d base-codes ha cd i below) ha
-      (elt-along M L n (base rec) a d base-codes ha cd i below
-      ∙ ap₂ (λ x y. x ⊕ (elt M L a ⊗ y)) (ap (elt M L) (base-free rec i free) ∙ elt-zero M L)
-      (ap (elt M L) (direction-self M rec i free) ∙ elt-one M L)
-      ∙ plus-zero (elt M L a ⊗ one) ∙ one-right (field-of M L) (elt M L a)))
+      let cd = direction-codes i below in (
+        below,
+        free,
+        ha,
+        elt-path M L (along M L (base rec) a d i) a (along-codes M L n (base rec) a d base-codes ha cd i below) ha
+            (elt-along M L n (base rec) a d base-codes ha cd i below
+            ∙ ap₂ (λ x y. x ⊕ (elt M L a ⊗ y)) (ap (elt M L) (base-free rec i free) ∙ elt-zero M L)
+            (ap (elt M L) (direction-self M rec i free) ∙ elt-one M L)
+            ∙ plus-zero (elt M L a ⊗ one) ∙ one-right (field-of M L) (elt M L a)),
+      )
   led i a below ha (from-pivot r j b e low) =
       let d = direction M rec j in
       let v = at rec r .weights j in
@@ -107,16 +112,19 @@ module _ (M : FieldModel) (L : FieldLaws M) (n : ℕ) (rec : List Pivoted) (R : 
       let hc = L .times-below (minus M (base rec i) a) (M .inverse v) hd hi in
       let cd = direction-codes j (low .below) in
       let back : elt M L c ⊗ elt M L (d i) ≡ neg (elt M L (base rec i) ⊕ neg (elt M L a)) =
-        ap₂ _⊗_
-        (elt-times M L (minus M (base rec i) a) (M .inverse v) hd hi
-        ∙ ap₂ _⊗_ (elt-minus M L (base rec i) a (base-codes i below) ha) (elt-inverse M L v hv))
-        (ap (λ x. elt M L (d x)) (sym e) ∙ ap (elt M L) (direction-pivot M rec distinct j r b) ∙ elt-opposite M L v hv)
-        ∙ share-back (field-of M L) (elt M L (base rec i) ⊕ neg (elt M L a)) (elt M L v) (elt-nonzero M L v hv (low .named))
-      in
-      (low .below, low .is-free, hc,
-      elt-path M L (along M L (base rec) c d i) a (along-codes M L n (base rec) c d base-codes hc cd i below) ha
-      (elt-along M L n (base rec) c d base-codes hc cd i below ∙ ap (λ x. elt M L (base rec i) ⊕ x) back
-      ∙ take-back (field-of M L) (elt M L (base rec i)) (elt M L a)))
+      ap₂ _⊗_
+      (elt-times M L (minus M (base rec i) a) (M .inverse v) hd hi
+      ∙ ap₂ _⊗_ (elt-minus M L (base rec i) a (base-codes i below) ha) (elt-inverse M L v hv))
+      (ap (λ x. elt M L (d x)) (sym e) ∙ ap (elt M L) (direction-pivot M rec distinct j r b) ∙ elt-opposite M L v hv)
+      ∙ share-back (field-of M L) (elt M L (base rec i) ⊕ neg (elt M L a)) (elt M L v) (elt-nonzero M L v hv (low .named))
+      in (
+        low .below,
+        low .is-free,
+        hc,
+        elt-path M L (along M L (base rec) c d i) a (along-codes M L n (base rec) c d base-codes hc cd i below) ha
+            (elt-along M L n (base rec) c d base-codes hc cd i below ∙ ap (λ x. elt M L (base rec i) ⊕ x) back
+            ∙ take-back (field-of M L) (elt M L (base rec i)) (elt M L a)),
+      )
 
   pub zeros-codes : Codes M n (λ m. 0)
   zeros-codes m b = zero-code M L
@@ -136,17 +144,22 @@ module _ (M : FieldModel) (L : FieldLaws M) (n : ℕ) (rec : List Pivoted) (R : 
       still : (j : ℕ) → j < n → Free rec j → direction M rec j i ≡ 0
       still j h free =
           sym (pins (λ m. 0) (direction M rec j) zeros-codes (direction-codes j h) (direction-agrees j h free))
+
       from : ((x : ℕ) × (x < length rec) × (at rec x .pivot ≡ i)) ⊎ Free rec i → (a : ℕ) × (a < length rec) × Alone n (at rec a .weights) i
       from (inl (a, b, e)) =
           let w = at rec a .weights in
           let none : (m : ℕ) → m < n → m ≢ i → Free rec m → w m ≡ 0 =
-            λ m h q free.
-              opposite-zero M L (w m) (R .weights-codes a b m h)
-              (sym (direction-pivot M rec distinct m a b) ∙ ap (direction M rec m) e ∙ still m h free)
-          in
-          (a, b,
-          (λ z. omega (arith, sym (R .own-pivot a b) ∙ ap w e ∙ z),
-          λ m h q. elim (beside a m b (λ p. q (p ∙ e))) [ inl z ↦ z | inr free ↦ none m h q free ]))
+          λ m h q free.
+          opposite-zero M L (w m) (R .weights-codes a b m h)
+          (sym (direction-pivot M rec distinct m a b) ∙ ap (direction M rec m) e ∙ still m h free)
+          in (
+            a,
+            b,
+            (
+              λ z. omega (arith, sym (R .own-pivot a b) ∙ ap w e ∙ z),
+              λ m h q. elim (beside a m b (λ p. q (p ∙ e))) [ inl z ↦ z | inr free ↦ none m h q free ],
+            ),
+          )
       from (inr free) = absurd (omega (arith, direction-self M rec i free, still i below free))
 
   row-pins : (i : ℕ) → i < n → (a : ℕ) → a < length rec → Alone n (at rec a .weights) i → Pins M n (rows-of (all-figured rec)) i
@@ -154,7 +167,7 @@ module _ (M : FieldModel) (L : FieldLaws M) (n : ℕ) (rec : List Pivoted) (R : 
       let w = at rec a .weights in
       let cw = R .weights-codes a b in
       let one-sum : (v : Vector) → Codes M n v → elt M L (sum M n w v) ≡ elt M L (w i) ⊗ elt M L (v i) =
-        λ v cv. sum-one M L n w v cw cv i below (λ m h q. inl (alone .1 m h q))
+      λ v cv. sum-one M L n w v cw cv i below (λ m h q. inl (alone .1 m h q))
       in
       elt-path M L (t i) (u i) (ct i below) (cu i below)
       (times-cancel (field-of M L) (elt M L (w i)) (elt M L (t i)) (elt M L (u i)) (elt-nonzero M L (w i) (cw i below) (alone .0))
@@ -174,11 +187,11 @@ witness-fits M L n rec R i a below ha w W =
     let cb = base-codes M L n rec R in
     let cd = direction-codes M L n rec R (W .member) h in
     let sums : (x : ℕ) → x < length rec → sum M n (at rec x .weights) w ≡ at rec x .figure =
-      λ x b.
-        let r = at rec x .weights in
-        sum-cong M n r r w (along M L (base rec) (W .factor) d) (λ m l. refl) (W .table)
-        ∙ sum-along M L n r (base rec) (W .factor) d (R .weights-codes x b) cb hc cd (direction-sum M L n rec R (W .member) h free x b)
-        ∙ base-sum M L n rec R x b
+    λ x b.
+    let r = at rec x .weights in
+    sum-cong M n r r w (along M L (base rec) (W .factor) d) (λ m l. refl) (W .table)
+    ∙ sum-along M L n r (base rec) (W .factor) d (R .weights-codes x b) cb hc cd (direction-sum M L n rec R (W .member) h free x b)
+    ∙ base-sum M L n rec R x b
     in
     (λ m b. omega (arith, W .table m b, along-codes M L n (base rec) (W .factor) d cb hc cd m b), W .table i below ∙ is-a, at-fits M n rec w sums)
 

@@ -25,13 +25,13 @@ module _ (m : ℕ) (p : ℕ → ℕ) (up : (a b : ℕ) → a < b → b < m → p
       let (x, l, h, e) = further has a (omega arith) in
       let (y, k, q) = has (suc a) b in
       let order : x < y =
-        elim (decLt x y) [
-          yes r ↦ r
-          | no r ↦ elim (ℕ-discrete x y) [
-            yes z ↦ absurd (omega (arith, up a (suc a) (omega arith) b, ap p′ z))
-            | no z ↦ absurd (omega (arith, up a (suc a) (omega arith) b, up′ y x (omega arith) h))
-          ]
+      elim (decLt x y) [
+        | yes r ↦ r
+        | no r ↦ elim (ℕ-discrete x y) [
+          | yes z ↦ absurd (omega (arith, up a (suc a) (omega arith) b, ap p′ z))
+          | no z ↦ absurd (omega (arith, up a (suc a) (omega arith) b, up′ y x (omega arith) h))
         ]
+      ]
       in
       (y, omega arith, k, q)
 
@@ -40,16 +40,16 @@ module _ (m : ℕ) (p : ℕ → ℕ) (up : (a b : ℕ) → a < b → b < m → p
   not-higher has a b =
       let (x, l, h, e) = further has a b in
       elim (decLt a x) [
-        yes r ↦ (omega arith, omega (arith, up′ a x r h))
+        | yes r ↦ (omega arith, omega (arith, up′ a x r h))
         | no r ↦ let z : a ≡ x = omega arith in (omega arith, omega (arith, ap p′ z))
       ]
 
 -- what a second record has where each table that fits the first fits it
 module _ (M : FieldModel) (L : FieldLaws M) (n : ℕ) (rec rec′ : List Pivoted) (R : Reduced M n rec) (R′ : Reduced M n rec′) (to : (t : Vector) → Codes M n t → Fits M n (all-figured rec) t → Fits M n (all-figured rec′) t) where
   open Field (field-of M L) using (zer, one, _⊕_, _⊗_, neg, times-one)
+
   infixl 60 _⊕_
   infixl 70 _⊗_
-
   base-also : (a : ℕ) → a < length rec′ → sum M n (at rec′ a .weights) (base rec) ≡ at rec′ a .figure
   base-also = let (cb, fits) = base-fits M L n rec R in fits-at M n rec′ (base rec) (to (base rec) cb fits)
 
@@ -65,17 +65,17 @@ module _ (M : FieldModel) (L : FieldLaws M) (n : ℕ) (rec rec′ : List Pivoted
       let w = along M L B 1 d in
       let cw = along-codes M L n B 1 d cb (one-code M L) cd in
       let fits =
-        at-fits M n rec w
-        (λ x h.
-          sum-along M L n (at rec x .weights) B 1 d (R .weights-codes x h) cb (one-code M L) cd (direction-sum M L n rec R j below free x h)
-          ∙ base-sum M L n rec R x h)
+      at-fits M n rec w
+      (λ x h.
+      sum-along M L n (at rec x .weights) B 1 d (R .weights-codes x h) cb (one-code M L) cd (direction-sum M L n rec R j below free x h)
+      ∙ base-sum M L n rec R x h)
       in
       let f = elt M L (at rec′ a .figure) in
       let x = elt M L (sum M n r d) in
       let same : f ⊕ x ≡ f ⊕ zer =
-        sym (ap₂ (λ y z. y ⊕ z) (ap (elt M L) (base-also a b)) (ap (λ y. y ⊗ x) (elt-one M L) ∙ times-one x))
-        ∙ sym (elt-sum-along M L n r B 1 d cr cb (one-code M L) cd)
-        ∙ ap (elt M L) (fits-at M n rec′ w (to w cw fits) a b) ∙ sym (zero-right F f)
+      sym (ap₂ (λ y z. y ⊕ z) (ap (elt M L) (base-also a b)) (ap (λ y. y ⊗ x) (elt-one M L) ∙ times-one x))
+      ∙ sym (elt-sum-along M L n r B 1 d cr cb (one-code M L) cd)
+      ∙ ap (elt M L) (fits-at M n rec′ w (to w cw fits) a b) ∙ sym (zero-right F f)
       in
       elt-path M L (sum M n r d) 0 (sum-below M L n r d cr cd) (zero-code M L) (plus-cancel F f x zer same ∙ sym (elt-zero M L))
 
@@ -96,7 +96,7 @@ module _ (M : FieldModel) (L : FieldLaws M) (n : ℕ) (rec rec′ : List Pivoted
       let d = direction M rec j in
       let cd = direction-codes M L n rec R j below in
       let rest : (m : ℕ) → m < n → m ≢ j → (r m ≡ 0) ⊎ (d m ≡ 0) =
-        λ m h q. elim (decLt m j) [ yes l ↦ inl (R′ .lowest-named a m b (omega arith)) | no l ↦ inr (direction-ends j m (omega arith)) ]
+      λ m h q. elim (decLt m j) [ yes l ↦ inl (R′ .lowest-named a m b (omega arith)) | no l ↦ inr (direction-ends j m (omega arith)) ]
       in
       one-nonzero M L
       (sym (times-one one)
@@ -108,7 +108,7 @@ module _ (M : FieldModel) (L : FieldLaws M) (n : ℕ) (rec rec′ : List Pivoted
     shared : (a : ℕ) → a < length rec → (x : ℕ) × (x < length rec′) × (at rec a .pivot ≡ at rec′ x .pivot)
     shared a b =
         elim (pivot-or-free rec′ (at rec a .pivot)) [
-          inl s ↦ (s .0, s .1, sym (s .2))
+          | inl s ↦ (s .0, s .1, sym (s .2))
           | inr free ↦ absurd (back-free (at rec a .pivot) (R .pivot-below a b) free a b refl)
         ]
 
@@ -118,12 +118,12 @@ module _ (M : FieldModel) (L : FieldLaws M) (n : ℕ) (rec rec′ : List Pivoted
           let (b′, e) = pivots a b in
           let r = at rec′ a .weights in
           let rest : (m : ℕ) → m < n → m ≢ at rec′ a .pivot → (r m ≡ 0) ⊎ (base rec m ≡ 0) =
-            λ m h q. elim (beside M L n rec′ R′ a m b′ q) [ inl z ↦ inl z | inr free ↦ inr (base-free rec m (back-free m h free)) ]
+          λ m h q. elim (beside M L n rec′ R′ a m b′ q) [ inl z ↦ inl z | inr free ↦ inr (base-free rec m (back-free m h free)) ]
           in
           elt-path M L (at rec a .figure) (at rec′ a .figure) (R .figure-code a b) (R′ .figure-code a b′)
           (sym (times-one (elt M L (at rec a .figure)))
           ∙ sym (ap₂ _⊗_ (ap (elt M L) (R′ .own-pivot a b′) ∙ elt-one M L)
-            (ap (elt M L) (ap (base rec) (sym e) ∙ base-pivot rec (distinct M L n rec R) a b)))
+          (ap (elt M L) (ap (base rec) (sym e) ∙ base-pivot rec (distinct M L n rec R) a b)))
           ∙ sym (sum-one M L n r (base rec) (R′ .weights-codes a b′) (base-codes M L n rec R) (at rec′ a .pivot) (R′ .pivot-below a b′) rest)
           ∙ ap (elt M L) (base-also a b′))
 
@@ -139,6 +139,7 @@ module _ (M : FieldModel) (L : FieldLaws M) (n : ℕ) (rec rec′ : List Pivoted
               let d : a ≢ x = λ z. q (sym z) in
               ap (at rec a .weights) (sym e) ∙ R .other-pivots a x b k d
               ∙ sym (R′ .other-pivots a x (pivots a b .0) (pivots x k .0) d) ∙ ap (at rec′ a .weights) (sym (pivots x k .1) ∙ e)
+
           at-free : Free rec m → at rec a .weights m ≡ at rec′ a .weights m
           at-free free =
               let F = field-of M L in
@@ -147,19 +148,20 @@ module _ (M : FieldModel) (L : FieldLaws M) (n : ℕ) (rec rec′ : List Pivoted
               let w = at rec a .weights in
               let d = direction M rec m in
               let rest : (x : ℕ) → x < n → x ≢ m → x ≢ at rec′ a .pivot → (r x ≡ 0) ⊎ (d x ≡ 0) =
-                λ x l i q.
-                  elim (beside M L n rec′ R′ a x b′ q) [ inl z ↦ inl z | inr f ↦ inr (direction-other M rec m x (back-free x l f) i) ]
+              λ x l i q.
+              elim (beside M L n rec′ R′ a x b′ q) [ inl z ↦ inl z | inr f ↦ inr (direction-other M rec m x (back-free x l f) i) ]
               in
               sym
               (elt-path M L (r m) (w m) (R′ .weights-codes a b′ m h) (R .weights-codes a b m h)
               (difference-zero F (elt M L (r m)) (elt M L (w m))
               (sym (ap₂ _⊕_
-                (ap (λ y. elt M L (r m) ⊗ y) (ap (elt M L) (direction-self M rec m free) ∙ elt-one M L) ∙ one-right F (elt M L (r m)))
-                (ap₂ _⊗_ (ap (elt M L) (R′ .own-pivot a b′) ∙ elt-one M L)
-                  (ap (elt M L) (ap d (sym e) ∙ direction-pivot M rec (distinct M L n rec R) m a b) ∙ elt-opposite M L (w m) (R .weights-codes a b m h))
-                ∙ times-one (neg (elt M L (w m)))))
+              (ap (λ y. elt M L (r m) ⊗ y) (ap (elt M L) (direction-self M rec m free) ∙ elt-one M L) ∙ one-right F (elt M L (r m)))
+              (ap₂ _⊗_ (ap (elt M L) (R′ .own-pivot a b′) ∙ elt-one M L)
+              (ap (elt M L) (ap d (sym e) ∙ direction-pivot M rec (distinct M L n rec R) m a b) ∙ elt-opposite M L (w m) (R .weights-codes a b m h))
+              ∙ times-one (neg (elt M L (w m)))))
               ∙ sym (sum-two M L n r d (R′ .weights-codes a b′) (direction-codes M L n rec R m h) m (at rec′ a .pivot) h (R′ .pivot-below a b′) (λ z. free a b (e ∙ sym z)) rest)
               ∙ ap (elt M L) (direction-also m h free a b′) ∙ elt-zero M L)))
+
           from : ((x : ℕ) × (x < length rec) × (at rec x .pivot ≡ m)) ⊎ Free rec m → at rec a .weights m ≡ at rec′ a .weights m
           from (inl (x, k, e)) = at-pivot x k e (ℕ-discrete x a)
           from (inr free) = at-free free
@@ -173,13 +175,13 @@ at-most-one M L n rec rec′ R R′ to back =
     let low = not-higher (length rec) p (R .pivots-rise) (length rec′) p′ (R′ .pivots-rise) (shared M L n rec rec′ R R′ to behind) in
     let high = not-higher (length rec′) p′ (R′ .pivots-rise) (length rec) p (R .pivots-rise) (shared M L n rec′ rec R′ R back ahead) in
     let pivots : (a : ℕ) → a < length rec → (a < length rec′) × (at rec a .pivot ≡ at rec′ a .pivot) =
-      λ a b. let (h, l) = low a b in (h, omega (arith, high a h))
+    λ a b. let (h, l) = low a b in (h, omega (arith, high a h))
     in
     let as-long : length rec ≡ length rec′ =
-      elim (decLt (length rec) (length rec′)) [
-        yes h ↦ absurd (omega (arith, high (length rec) h .0))
-        | no h ↦ elim (decLt (length rec′) (length rec)) [ yes k ↦ absurd (omega (arith, low (length rec′) k .0)) | no k ↦ omega arith ]
-      ]
+    elim (decLt (length rec) (length rec′)) [
+      | yes h ↦ absurd (omega (arith, high (length rec) h .0))
+      | no h ↦ elim (decLt (length rec′) (length rec)) [ yes k ↦ absurd (omega (arith, low (length rec′) k .0)) | no k ↦ omega arith ]
+    ]
     in
     record {
       lengths = as-long;
@@ -197,6 +199,6 @@ pub same-fits : Same-fits
 same-fits M n rec rec′ same t fits =
     at-fits M n rec′ t
     (λ a b.
-      let h : a < length rec = omega (arith, same .lengths) in
-      sum-cong M n (at rec′ a .weights) (at rec a .weights) t t (λ m l. sym (same .weights a m h l)) (λ m l. refl)
-      ∙ fits-at M n rec t fits a h ∙ same .figures a h)
+    let h : a < length rec = omega (arith, same .lengths) in
+    sum-cong M n (at rec′ a .weights) (at rec a .weights) t t (λ m l. sym (same .weights a m h l)) (λ m l. refl)
+    ∙ fits-at M n rec t fits a h ∙ same .figures a h)

@@ -29,9 +29,9 @@ all-codes M n rec R a b = ((R .weights-codes a b, R .figure-code a b), R .pivot-
 
 module _ (M : FieldModel) (L : FieldLaws M) (n : ℕ) where
   open Field (field-of M L) using (Elt, zer, one, _⊕_, _⊗_, neg, plus-zero, times-comm, plus-neg)
+
   infixl 60 _⊕_
   infixl 70 _⊗_
-
   -- the sum over the table t, and the figure y times
   pub value : (ℕ → Elt) → Elt → Figured → Elt
   value t y g = total (field-of M L) n (λ m. elt M L (g .row m) ⊗ t m) ⊕ (elt M L (g .figure) ⊗ y)
@@ -69,10 +69,10 @@ module _ (M : FieldModel) (L : FieldLaws M) (n : ℕ) where
   less-none a b c ha hb hc none =
       let F = field-of M L in
       let gone : (b ≡ 0) ⊎ (c ≡ 0) → neg (elt M L b) ⊗ elt M L c ≡ zer =
-        elim [
-          inl e ↦ neg-times F (elt M L b) (elt M L c) ∙ ap (λ x. neg (x ⊗ elt M L c)) (ap (elt M L) e ∙ elt-zero M L) ∙ ap neg (zero-times F (elt M L c)) ∙ neg-zero F
-          | inr e ↦ ap (λ x. neg (elt M L b) ⊗ x) (ap (elt M L) e ∙ elt-zero M L) ∙ times-zero F (neg (elt M L b))
-        ]
+      elim [
+        | inl e ↦ neg-times F (elt M L b) (elt M L c) ∙ ap (λ x. neg (x ⊗ elt M L c)) (ap (elt M L) e ∙ elt-zero M L) ∙ ap neg (zero-times F (elt M L c)) ∙ neg-zero F
+        | inr e ↦ ap (λ x. neg (elt M L b) ⊗ x) (ap (elt M L) e ∙ elt-zero M L) ∙ times-zero F (neg (elt M L b))
+      ]
       in
       elt-path M L (minus M a (M .times b c)) a (less-below a b c ha hb hc) ha
       (elt-less a b c ha hb hc ∙ ap (λ x. elt M L a ⊕ x) (gone none) ∙ zero-right F (elt M L a))
@@ -87,9 +87,10 @@ module _ (M : FieldModel) (L : FieldLaws M) (n : ℕ) where
 
   pub cleared-codes : (e : Pivoted) (g : Figured) → FigCodes M n (figured e) → e .pivot < n → FigCodes M n g → FigCodes M n (cleared M e g)
   cleared-codes e g ce below cg =
-      let hp = cg .0 (e .pivot) below in
-      (λ m b. less-below (g .row m) (g .row (e .pivot)) (e .weights m) (cg .0 m b) hp (ce .0 m b),
-      less-below (g .figure) (g .row (e .pivot)) (e .figure) (cg .1) hp (ce .1))
+      let hp = cg .0 (e .pivot) below in (
+        λ m b. less-below (g .row m) (g .row (e .pivot)) (e .weights m) (cg .0 m b) hp (ce .0 m b),
+        less-below (g .figure) (g .row (e .pivot)) (e .figure) (cg .1) hp (ce .1),
+      )
 
   pub cleared-value :
       (t : ℕ → Elt) (y : Elt) (e : Pivoted) (g : Figured) → FigCodes M n (figured e) → e .pivot < n → FigCodes M n g
@@ -112,11 +113,11 @@ module _ (M : FieldModel) (L : FieldLaws M) (n : ℕ) where
   scaled-value t y c g hc cg =
       let F = field-of M L in
       let part : (x : ℕ) → x < M .size → elt M L (M .times c x) ≡ elt M L 0 ⊕ (elt M L c ⊗ elt M L x) =
-        λ x h. elt-times M L c x hc h ∙ sym (ap (λ z. z ⊕ (elt M L c ⊗ elt M L x)) (elt-zero M L) ∙ plus-zero (elt M L c ⊗ elt M L x))
+      λ x h. elt-times M L c x hc h ∙ sym (ap (λ z. z ⊕ (elt M L c ⊗ elt M L x)) (elt-zero M L) ∙ plus-zero (elt M L c ⊗ elt M L x))
       in
       let none : (x : Elt) → elt M L 0 ⊗ x ≡ zer = λ x. ap (λ z. z ⊗ x) (elt-zero M L) ∙ zero-times F x in
       let nothing : value t y no-figured ≡ zer =
-        ap₂ _⊕_ (total-zero F n (λ m. elt M L 0 ⊗ t m) (λ m b. none (t m))) (none y) ∙ plus-zero zer
+      ap₂ _⊕_ (total-zero F n (λ m. elt M L 0 ⊗ t m) (λ m b. none (t m))) (none y) ∙ plus-zero zer
       in
       value-combined t y (elt M L c) no-figured g (scaled M c g) (λ m b. part (g .row m) (cg .0 m b)) (part (g .figure) (cg .1))
       ∙ ap (λ x. x ⊕ (elt M L c ⊗ value t y g)) nothing ∙ plus-zero (elt M L c ⊗ value t y g)
@@ -175,9 +176,10 @@ module _ (M : FieldModel) (L : FieldLaws M) (n : ℕ) where
   fit-value t ct g cg =
       let s = sum M n (g .row) t in
       let hs = sum-below M L n (g .row) t (cg .0) ct in
-      let v = table-value t ct g cg ∙ elt-minus M L s (g .figure) hs (cg .1) in
-      (λ e. v ∙ ap (λ x. elt M L x ⊕ neg (elt M L (g .figure))) e ∙ plus-neg (elt M L (g .figure)),
-      λ e. elt-path M L s (g .figure) hs (cg .1) (difference-zero (field-of M L) (elt M L s) (elt M L (g .figure)) (sym v ∙ e)))
+      let v = table-value t ct g cg ∙ elt-minus M L s (g .figure) hs (cg .1) in (
+        λ e. v ∙ ap (λ x. elt M L x ⊕ neg (elt M L (g .figure))) e ∙ plus-neg (elt M L (g .figure)),
+        λ e. elt-path M L s (g .figure) hs (cg .1) (difference-zero (field-of M L) (elt M L s) (elt M L (g .figure)) (sym v ∙ e)),
+      )
 
   -- the difference of two tables
   abbrev pub between : Vector → Vector → ℕ → Elt
@@ -194,15 +196,16 @@ module _ (M : FieldModel) (L : FieldLaws M) (n : ℕ) where
       let x = elt M L (sum M n r t) in
       let y = elt M L (sum M n r u) in
       let v : value (between t u) zer g ≡ x ⊕ neg y =
-        ap₂ _⊕_
-        (total-cong F n (λ m. elt M L (r m) ⊗ between t u m) (λ m. (elt M L (r m) ⊗ elt M L (t m)) ⊕ (neg one ⊗ (elt M L (r m) ⊗ elt M L (u m))))
-        (λ m b. table-linear F (elt M L (r m)) (elt M L (t m)) (elt M L (u m)) (neg one))
-        ∙ total-linear F n (neg one) (λ m. elt M L (r m) ⊗ elt M L (t m)) (λ m. elt M L (r m) ⊗ elt M L (u m))
-        ∙ sym (ap₂ (λ p q. p ⊕ (neg one ⊗ q)) (elt-sum M L n r t cg ct) (elt-sum M L n r u cg cu)))
-        (times-zero F (elt M L (g .figure)))
-        ∙ zero-right F (x ⊕ (neg one ⊗ y)) ∙ ap (λ z. x ⊕ z) (times-comm (neg one) y ∙ times-neg-one F y)
-      in
-      (λ e. v ∙ ap (λ z. elt M L z ⊕ neg y) e ∙ plus-neg y,
-      λ e.
-        elt-path M L (sum M n r t) (sum M n r u) (sum-below M L n r t cg ct) (sum-below M L n r u cg cu)
-        (difference-zero F x y (sym v ∙ e)))
+      ap₂ _⊕_
+      (total-cong F n (λ m. elt M L (r m) ⊗ between t u m) (λ m. (elt M L (r m) ⊗ elt M L (t m)) ⊕ (neg one ⊗ (elt M L (r m) ⊗ elt M L (u m))))
+      (λ m b. table-linear F (elt M L (r m)) (elt M L (t m)) (elt M L (u m)) (neg one))
+      ∙ total-linear F n (neg one) (λ m. elt M L (r m) ⊗ elt M L (t m)) (λ m. elt M L (r m) ⊗ elt M L (u m))
+      ∙ sym (ap₂ (λ p q. p ⊕ (neg one ⊗ q)) (elt-sum M L n r t cg ct) (elt-sum M L n r u cg cu)))
+      (times-zero F (elt M L (g .figure)))
+      ∙ zero-right F (x ⊕ (neg one ⊗ y)) ∙ ap (λ z. x ⊕ z) (times-comm (neg one) y ∙ times-neg-one F y)
+      in (
+        λ e. v ∙ ap (λ z. elt M L z ⊕ neg y) e ∙ plus-neg y,
+        λ e.
+            elt-path M L (sum M n r t) (sum M n r u) (sum-below M L n r t cg ct) (sum-below M L n r u cg cu)
+            (difference-zero F x y (sym v ∙ e)),
+      )

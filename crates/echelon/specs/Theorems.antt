@@ -105,8 +105,8 @@ Form-grown =
     (M : FieldModel) → FieldLaws M → (n : ℕ) (given : List Figured) (rec rec′ : List Pivoted) → ReducedForm M n given rec
     → (g : Figured) → (Fixes M n (rows-of (all-figured rec)) (g .row) → ⊥) → Reduced M n rec′
     → ((t : Vector) → Codes M n t
-       → (Fits M n (all-figured rec′) t → Fits M n (g ∷ all-figured rec) t)
-       × (Fits M n (g ∷ all-figured rec) t → Fits M n (all-figured rec′) t))
+    → (Fits M n (all-figured rec′) t → Fits M n (g ∷ all-figured rec) t)
+    × (Fits M n (g ∷ all-figured rec) t → Fits M n (all-figured rec′) t))
     → ReducedForm M n (g ∷ given) rec′
 
 -- At most one record is the reduced form of given rows.
