@@ -58,7 +58,7 @@ module _ (F : Field) where
   pub zero-times : (a : Elt) → zer ⊗ a ≡ zer
   zero-times a = times-comm zer a ∙ times-zero a
 
-  -- what is the opposite of nothing more than itself
+  -- an opposite is known by its sum
   pub neg-is : (a b : Elt) → a ⊕ b ≡ zer → b ≡ neg a
   neg-is a b e = plus-cancel a b (neg a) (e ∙ sym (plus-neg a))
 

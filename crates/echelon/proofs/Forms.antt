@@ -1,6 +1,6 @@
 -- The reduced form of given rows: form-grown, and for rows of elements form-agrees and form-kept.
 -- Assumes nothing.
-use mathlib.Core.Path.{_≡_, refl, sym, ap, ap₂, _∙_}
+use mathlib.Core.Path.{_≡_, sym, ap, ap₂, _∙_}
 use mathlib.Core.Logic.{_↔_}
 use mathlib.Core.List.{List, [], _∷_}
 use Prim.Native.Nat.{ℕ, suc, _<_}
@@ -9,14 +9,14 @@ use native.Mathlib.Omega.{arith}
 use lib.ListN.{length}
 use Rattle.field.specs.Model.{FieldModel, FieldLaws}
 use Rattle.echelon.specs.Rows.{Vector, Codes, sum, Figured, rows-of, Agree, Fits, Fixes}
-use Rattle.echelon.specs.Reduced.{Pivoted, at, all-figured, Reduced, FitsGiven, ReducedForm}
+use Rattle.echelon.specs.Reduced.{Pivoted, at, all-figured, FitsGiven}
 use Rattle.echelon.specs.Witness.{base}
 use Rattle.echelon.specs.Theorems.{Form-grown}
 use Rattle.echelon.specs.Coded.{RowsCodes, Coded-form-agrees, Coded-form-kept}
 use Rattle.echelon.proofs.Field.{Field, plus-cancel, zero-right, difference-zero, neg-times}
 use Rattle.echelon.proofs.Codes.{field-of, elt, elt-path, elt-one, elt-opposite, one-code, sum-below, along, along-codes, elt-sum-along}
 use Rattle.echelon.proofs.Indexed.{fits-at, at-fits, agree-at, at-agree}
-use Rattle.echelon.proofs.Tables.{base-codes, base-fits}
+use Rattle.echelon.proofs.Tables.{base-fits}
 
 module _ (M : FieldModel) (n : ℕ) where
   -- the rows that others fix have one sum over all tables that fit

@@ -1,17 +1,17 @@
 -- Lists by index: fits-at, agree-at and back, pivot-or-free, and what base and direction hold at each member.
 -- Assumes nothing.
-use mathlib.Core.Path.{_≡_, refl, sym, ap, subst, _∙_}
+use mathlib.Core.Path.{_≡_, refl, ap, subst, _∙_}
 use mathlib.Core.Logic.{_≢_, _⊎_, inl, inr}
 use mathlib.Core.Bool.{Bool, true, false}
-use mathlib.Core.List.{List, [], _∷_, map}
-use Prim.Native.Nat.{ℕ, zero, suc, _<_, suc-le-suc, zero-le}
+use mathlib.Core.List.{List, [], _∷_}
+use Prim.Native.Nat.{ℕ, zero, suc, _<_}
 use native.Mathlib.Decide.{ℕ-discrete}
 use native.Mathlib.Omega.{arith}
 use lib.Dec.{T, eqb, eqb→eq, eqb-refl}
 use lib.ListN.{length}
 use Rattle.field.specs.Model.{FieldModel}
-use Rattle.echelon.specs.Rows.{Vector, sum, Figured, rows-of, Agree, Fits}
-use Rattle.echelon.specs.Reduced.{Pivoted, figured, all-figured, at}
+use Rattle.echelon.specs.Rows.{Vector, sum, rows-of, Agree, Fits}
+use Rattle.echelon.specs.Reduced.{Pivoted, all-figured, at}
 use Rattle.echelon.specs.Witness.{Free, base, direction}
 
 -- some index below k at which Q holds, or none

@@ -1,18 +1,18 @@
 -- What is left over of a row joins the record: joined-form. Spot says which row stands where in the joined record.
 -- Assumes nothing.
-use mathlib.Core.Path.{_≡_, refl, sym, ap, ap₂, subst, subst₂, _∙_}
-use mathlib.Core.Logic.{_≢_, _⊎_, inl, inr, _↔_}
+use mathlib.Core.Path.{_≡_, refl, sym, ap, ap₂, subst, _∙_}
+use mathlib.Core.Logic.{_≢_, _⊎_, inl, inr}
 use mathlib.Core.List.{List, [], _∷_, _++_, map}
 use Prim.Native.Nat.{ℕ, zero, suc, _≤_, _<_}
 use native.Mathlib.Decide.{ℕ-discrete, decLt}
 use native.Mathlib.Omega.{arith}
 use lib.ListN.{length, take, drop}
 use Rattle.field.specs.Model.{FieldModel, FieldLaws}
-use Rattle.echelon.specs.Rows.{Vector, Codes, minus, sum, Figured, rows-of, Agree, Fits}
+use Rattle.echelon.specs.Rows.{Vector, Codes, Figured, rows-of, Agree, Fits}
 use Rattle.echelon.specs.Reduced.{Pivoted, figured, all-figured, at, Reduced}
 use Rattle.echelon.specs.Elimination.{leftover, scaled, with-pivot, pivot-cleared, joined}
 use Rattle.echelon.specs.Theorems.{Joined-form}
-use Rattle.echelon.proofs.Field.{Field, times-zero, zero-right, plus-cancel, factor-away}
+use Rattle.echelon.proofs.Field.{Field, times-zero, zero-right, factor-away}
 use Rattle.echelon.proofs.Codes.{field-of, elt, elt-path, elt-zero, elt-times, elt-inverse, elt-nonzero, zero-code}
 use Rattle.echelon.proofs.Indexed.{fits-at, at-fits, agree-at, at-agree}
 use Rattle.echelon.proofs.Values.{FigCodes, AllCodes, all-codes, value, Kills, cleared-codes, cleared-value, scaled-codes, scaled-value, less-none, less-self, leftover-value, fit-value, between, agree-value}
@@ -79,7 +79,7 @@ module _ (f : Pivoted → Pivoted) (x : Pivoted) where
       ]
 
 module _ (M : FieldModel) (L : FieldLaws M) (n : ℕ) (rec : List Pivoted) (R : Reduced M n rec) (g : Figured) (cg : FigCodes M n g) (p k : ℕ) (below : p < n) (named : leftover M rec g .row p ≢ 0) (lowest : (m : ℕ) → m < p → leftover M rec g .row m ≡ 0) (within : k ≤ length rec) (before : (a : ℕ) → a < k → at rec a .pivot < p) (after : (a : ℕ) → k ≤ a → a < length rec → p < at rec a .pivot) where
-  open Field (field-of M L) using (Elt, zer, one, _⊕_, _⊗_, neg, inv, plus-zero, times-comm, times-inv)
+  open Field (field-of M L) using (Elt, zer, one, _⊕_, _⊗_, neg, times-comm, times-inv)
 
   infixl 60 _⊕_
   infixl 70 _⊗_

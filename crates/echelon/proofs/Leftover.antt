@@ -1,6 +1,6 @@
 -- What is left over of a row: leftover-fits, fixed-leaves-nothing.
 -- Assumes nothing.
-use mathlib.Core.Path.{_≡_, refl, sym, ap, _∙_}
+use mathlib.Core.Path.{_≡_, sym, ap, _∙_}
 use mathlib.Core.Logic.{_≢_, _⊎_, inl, inr, _↔_}
 use mathlib.Core.List.{List, [], _∷_}
 use Prim.Native.Nat.{ℕ, zero, suc, _<_}
@@ -16,12 +16,11 @@ use Rattle.echelon.proofs.Field.{Field, one-right}
 use Rattle.echelon.proofs.Codes.{field-of, elt, elt-path, elt-zero, elt-one, zero-code, minus-below, sum-below, sum-one, sum-none}
 use Rattle.echelon.proofs.Indexed.{fits-at, agree-at, pivot-or-free, direction-self, direction-other}
 use Rattle.echelon.proofs.Tables.{direction-codes, direction-agrees, zeros-codes, zeros-sum}
-use Rattle.echelon.proofs.Values.{FigCodes, AllCodes, all-codes, value, Kills, cleared-codes, less-self, leftover-codes, leftover-value, tip, tip-value, table-value, fit-value, between, agree-value}
+use Rattle.echelon.proofs.Values.{FigCodes, AllCodes, all-codes, Kills, cleared-codes, less-self, leftover-codes, leftover-value, tip, tip-value, table-value, fit-value, between, agree-value}
 
 module _ (M : FieldModel) (L : FieldLaws M) (n : ℕ) where
-  open Field (field-of M L) using (zer, one, _⊕_, _⊗_, neg)
+  open Field (field-of M L) using (zer, one, _⊗_, neg)
 
-  infixl 60 _⊕_
   infixl 70 _⊗_
   pub leftover-pivot :
       (rec : List Pivoted) → AllCodes M n rec

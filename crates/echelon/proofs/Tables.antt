@@ -3,21 +3,21 @@
 use mathlib.Core.Path.{_≡_, refl, sym, ap, ap₂, subst, _∙_}
 use mathlib.Core.Logic.{_≢_, _⊎_, inl, inr}
 use mathlib.Core.List.{List}
-use Prim.Native.Nat.{ℕ, zero, suc, _<_}
+use Prim.Native.Nat.{ℕ, _<_}
 use native.Mathlib.Decide.{ℕ-discrete}
 use native.Mathlib.Omega.{arith}
 use lib.ListN.{length}
 use Rattle.field.specs.Model.{FieldModel, FieldLaws}
-use Rattle.echelon.specs.Rows.{Vector, Codes, minus, sum, Fits, rows-of, Agree, Pins}
+use Rattle.echelon.specs.Rows.{Vector, Codes, minus, sum, rows-of, Agree, Pins}
 use Rattle.echelon.specs.Reduced.{Pivoted, at, all-figured, Reduced, Alone}
-use Rattle.echelon.specs.Witness.{Free, base, direction, Leads, from-free, from-pivot, Witness, LowestFree}
+use Rattle.echelon.specs.Witness.{Free, base, direction, Leads, from-free, from-pivot}
 use Rattle.echelon.specs.Theorems.{Base-fits, Direction-free, Witness-fits, Pinned-alone}
-use Rattle.echelon.proofs.Field.{Field, plus-cancel, zero-right, times-zero, one-right, times-cancel, neg-zero, difference-zero, neg-times, neg-away, plus-left-comm, times-left-comm, take-back, share-back}
-use Rattle.echelon.proofs.Codes.{field-of, elt, elt-path, elt-zero, elt-one, elt-plus, elt-times, elt-opposite, elt-minus, elt-inverse, elt-nonzero, one-nonzero, zero-code, one-code, sum-below, along, along-codes, elt-along, elt-sum-along, sum-one, sum-two, sum-cong, minus-below, sum-along, sum-none, opposite-zero}
-use Rattle.echelon.proofs.Indexed.{find, fits-at, at-fits, agree-at, at-agree, pivot-or-free, Distinct, base-free, base-pivot, direction-self, direction-other, direction-pivot}
+use Rattle.echelon.proofs.Field.{Field, one-right, times-cancel, take-back, share-back}
+use Rattle.echelon.proofs.Codes.{field-of, elt, elt-path, elt-zero, elt-one, elt-times, elt-opposite, elt-minus, elt-inverse, elt-nonzero, zero-code, one-code, sum-below, along, along-codes, elt-along, sum-one, sum-two, sum-cong, minus-below, sum-along, sum-none, opposite-zero}
+use Rattle.echelon.proofs.Indexed.{at-fits, agree-at, at-agree, pivot-or-free, Distinct, base-free, base-pivot, direction-self, direction-other, direction-pivot}
 
 module _ (M : FieldModel) (L : FieldLaws M) (n : ℕ) (rec : List Pivoted) (R : Reduced M n rec) where
-  open Field (field-of M L) using (Elt, zer, one, _⊕_, _⊗_, neg, inv, plus-comm, plus-assoc, plus-zero, times-comm, times-assoc, times-one, plus-neg, times-inv)
+  open Field (field-of M L) using (one, _⊕_, _⊗_, neg, plus-zero, times-one, plus-neg)
 
   infixl 60 _⊕_
   infixl 70 _⊗_

@@ -9,7 +9,7 @@ use native.Mathlib.Omega.{arith}
 use lib.ListN.{length}
 use Rattle.field.specs.Model.{FieldModel, FieldLaws}
 use Rattle.echelon.specs.Rows.{Vector, Codes, sum, Fits}
-use Rattle.echelon.specs.Reduced.{Pivoted, at, all-figured, Reduced, Same}
+use Rattle.echelon.specs.Reduced.{Pivoted, at, all-figured, Reduced}
 use Rattle.echelon.specs.Witness.{Free, base, direction}
 use Rattle.echelon.specs.Theorems.{At-most-one, One-form, Same-fits}
 use Rattle.echelon.proofs.Field.{Field, plus-cancel, zero-right, one-right, difference-zero}
@@ -46,7 +46,7 @@ module _ (m : ℕ) (p : ℕ → ℕ) (up : (a b : ℕ) → a < b → b < m → p
 
 -- what a second record has where each table that fits the first fits it
 module _ (M : FieldModel) (L : FieldLaws M) (n : ℕ) (rec rec′ : List Pivoted) (R : Reduced M n rec) (R′ : Reduced M n rec′) (to : (t : Vector) → Codes M n t → Fits M n (all-figured rec) t → Fits M n (all-figured rec′) t) where
-  open Field (field-of M L) using (Elt, zer, one, _⊕_, _⊗_, neg, times-one)
+  open Field (field-of M L) using (zer, one, _⊕_, _⊗_, neg, times-one)
 
   infixl 60 _⊕_
   infixl 70 _⊗_

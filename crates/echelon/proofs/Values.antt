@@ -1,11 +1,11 @@
 -- What a row with its figure comes to over a table of elements: value. It is linear, so what is left over keeps it: leftover-value.
 -- fit-value and agree-value read a fit and an agreement as a value of 0.
 -- Assumes nothing.
-use mathlib.Core.Path.{_≡_, refl, sym, ap, ap₂, subst, _∙_}
-use mathlib.Core.Logic.{_≢_, _⊎_, inl, inr, _↔_}
+use mathlib.Core.Path.{_≡_, refl, sym, ap, ap₂, _∙_}
+use mathlib.Core.Logic.{_⊎_, inl, inr, _↔_}
 use mathlib.Core.Bool.{true, false}
 use mathlib.Core.List.{List, [], _∷_}
-use Prim.Native.Nat.{ℕ, zero, suc, _<_}
+use Prim.Native.Nat.{ℕ, suc, _<_}
 use native.Mathlib.Omega.{arith}
 use lib.Dec.{eqb, eqb→eq, eqb-refl}
 use lib.ListN.{length}
@@ -28,7 +28,7 @@ pub all-codes : (M : FieldModel) (n : ℕ) (rec : List Pivoted) → Reduced M n 
 all-codes M n rec R a b = ((R .weights-codes a b, R .figure-code a b), R .pivot-below a b)
 
 module _ (M : FieldModel) (L : FieldLaws M) (n : ℕ) where
-  open Field (field-of M L) using (Elt, zer, one, _⊕_, _⊗_, neg, inv, plus-zero, times-comm, times-one, plus-neg)
+  open Field (field-of M L) using (Elt, zer, one, _⊕_, _⊗_, neg, plus-zero, times-comm, plus-neg)
 
   infixl 60 _⊕_
   infixl 70 _⊗_
