@@ -1,0 +1,19 @@
+// Rows in memory: 64 weights, 0 from the count on.
+use field::Element;
+use refusal::Member;
+
+// A row with its figure, as elimination works on it.
+#[derive(Clone, Copy)]
+pub struct FiguredRow {
+    pub weights: [Element; 64],
+    pub figure: Element,
+}
+
+// A row of the record: 1 at its pivot, and 0 at the pivots of the others.
+#[derive(Clone, Copy)]
+pub struct RecordRow {
+    pub pivot: Member,
+    pub row: FiguredRow,
+}
+
+mod steps;
