@@ -1,4 +1,4 @@
--- What is left over of a row joins the record: joined-form. Spot says which row stands where in the joined record.
+-- What is left over of a row joins the record: joined-form. put-low, put-here and put-high say which row stands where in the joined record.
 -- Assumes nothing.
 use mathlib.Core.Path.{_≡_, refl, sym, ap, ap₂, subst, _∙_}
 use mathlib.Core.Logic.{_≢_, _⊎_, inl, inr}
@@ -6,7 +6,7 @@ use mathlib.Core.List.{List, [], _∷_, _++_, map}
 use Prim.Native.Nat.{ℕ, zero, suc, _≤_, _<_}
 use native.Mathlib.Decide.{ℕ-discrete, decLt}
 use native.Mathlib.Omega.{arith}
-use lib.ListN.{length, take, drop}
+use lib.ListN.{length, take, drop, length-map}
 use Rattle.field.specs.Model.{FieldModel, FieldLaws}
 use Rattle.echelon.specs.Rows.{Vector, Codes, Figured, rows-of, Agree, Fits}
 use Rattle.echelon.specs.Reduced.{Pivoted, figured, all-figured, at, Reduced}
@@ -19,7 +19,7 @@ use Rattle.echelon.proofs.Values.{FigCodes, AllCodes, all-codes, value, Kills,
 use Rattle.echelon.proofs.Leftover.{left-codes, left-pivot}
 
 -- x put in before place k of the rows that f makes
-abbrev put : (Pivoted → Pivoted) → Pivoted → ℕ → List Pivoted → List Pivoted
+abbrev pub put : (Pivoted → Pivoted) → Pivoted → ℕ → List Pivoted → List Pivoted
 put f x k rec = take k (map f rec) ++ x ∷ drop k (map f rec)
 
 module _ (f : Pivoted → Pivoted) (x : Pivoted) where
@@ -28,27 +28,23 @@ module _ (f : Pivoted → Pivoted) (x : Pivoted) where
   at-map (e ∷ rec) zero b = refl
   at-map (e ∷ rec) (suc a) b = at-map rec a (omega arith)
 
-  length-rows : (rec : List Pivoted) → length (map f rec) ≡ length rec
-  length-rows [] = refl
-  length-rows (e ∷ rec) = ap suc (length-rows rec)
-
-  put-length : (k : ℕ) (rec : List Pivoted) → k ≤ length rec → length (put f x k rec) ≡ suc (length rec)
-  put-length zero rec h = ap suc (length-rows rec)
+  pub put-length : (k : ℕ) (rec : List Pivoted) → k ≤ length rec → length (put f x k rec) ≡ suc (length rec)
+  put-length zero rec h = ap suc (length-map rec f)
   put-length (suc k) [] h = absurd (omega arith)
   put-length (suc k) (e ∷ rec) h = ap suc (put-length k rec (omega arith))
 
-  put-low : (k : ℕ) (rec : List Pivoted) → k ≤ length rec → (a : ℕ) → a < k → at (put f x k rec) a ≡ f (at rec a)
+  pub put-low : (k : ℕ) (rec : List Pivoted) → k ≤ length rec → (a : ℕ) → a < k → at (put f x k rec) a ≡ f (at rec a)
   put-low zero rec h a b = absurd (omega arith)
   put-low (suc k) [] h a b = absurd (omega arith)
   put-low (suc k) (e ∷ rec) h zero b = refl
   put-low (suc k) (e ∷ rec) h (suc a) b = put-low k rec (omega arith) a (omega arith)
 
-  put-here : (k : ℕ) (rec : List Pivoted) → k ≤ length rec → at (put f x k rec) k ≡ x
+  pub put-here : (k : ℕ) (rec : List Pivoted) → k ≤ length rec → at (put f x k rec) k ≡ x
   put-here zero rec h = refl
   put-here (suc k) [] h = absurd (omega arith)
   put-here (suc k) (e ∷ rec) h = put-here k rec (omega arith)
 
-  put-high : (k : ℕ) (rec : List Pivoted) → k ≤ length rec → (a : ℕ) → k ≤ a → a < length rec → at (put f x k rec) (suc a) ≡ f (at rec a)
+  pub put-high : (k : ℕ) (rec : List Pivoted) → k ≤ length rec → (a : ℕ) → k ≤ a → a < length rec → at (put f x k rec) (suc a) ≡ f (at rec a)
   put-high zero rec h a l b = at-map rec a b
   put-high (suc k) [] h a l b = absurd (omega arith)
   put-high (suc k) (e ∷ rec) h zero l b = absurd (omega arith)
@@ -79,7 +75,7 @@ module _ (f : Pivoted → Pivoted) (x : Pivoted) where
       ]
 
 module _ (M : FieldModel) (L : FieldLaws M) (n : ℕ) (rec : List Pivoted) (R : Reduced M n rec) (g : Figured) (cg : FigCodes M n g) (p k : ℕ) (below : p < n) (named : leftover M rec g .row p ≢ 0) (lowest : (m : ℕ) → m < p → leftover M rec g .row m ≡ 0) (within : k ≤ length rec) (before : (a : ℕ) → a < k → at rec a .pivot < p) (after : (a : ℕ) → k ≤ a → a < length rec → p < at rec a .pivot) where
-  open Field (field-of M L) using (Elt, zer, one, _⊕_, _⊗_, neg, times-comm, times-inv)
+  open Field (field-of M L) using (Elt, zer, one, _⊕_, _⊗_, neg, times-inv)
 
   infixl 60 _⊕_
   infixl 70 _⊗_

@@ -1,11 +1,11 @@
--- What is left over of a row: leftover-fits, fixed-leaves-nothing.
+-- What is left over of a row: leftover-next, leftover-fits, fixed-leaves-nothing.
 -- Assumes nothing.
-use mathlib.Core.Path.{_≡_, sym, ap, _∙_}
+use mathlib.Core.Path.{_≡_, refl, sym, ap, _∙_}
 use mathlib.Core.Logic.{_≢_, _⊎_, inl, inr, _↔_}
 use mathlib.Core.List.{List, [], _∷_}
 use Prim.Native.Nat.{ℕ, zero, suc, _<_}
 use native.Mathlib.Omega.{arith}
-use lib.ListN.{length}
+use lib.ListN.{length, take}
 use Rattle.field.specs.Model.{FieldModel, FieldLaws}
 use Rattle.echelon.specs.Rows.{Vector, Codes, minus, sum, Figured, rows-of, Agree, Fixes}
 use Rattle.echelon.specs.Reduced.{Pivoted, figured, all-figured, at, Reduced}
@@ -17,6 +17,14 @@ use Rattle.echelon.proofs.Codes.{field-of, elt, elt-path, elt-zero, elt-one, z
 use Rattle.echelon.proofs.Indexed.{fits-at, agree-at, pivot-or-free, direction-self, direction-other}
 use Rattle.echelon.proofs.Tables.{direction-codes, direction-agrees, zeros-codes, zeros-sum}
 use Rattle.echelon.proofs.Values.{FigCodes, AllCodes, all-codes, Kills, cleared-codes, less-self, leftover-codes, leftover-value, tip, tip-value, table-value, fit-value, between, agree-value}
+
+-- one record row more
+pub leftover-next :
+    (M : FieldModel) (rec : List Pivoted) (k : ℕ) → k < length rec
+    → (g : Figured) → leftover M (take (suc k) rec) g ≡ cleared M (at rec k) (leftover M (take k rec) g)
+leftover-next M [] k b g = absurd (omega arith)
+leftover-next M (e ∷ rec) zero b g = refl
+leftover-next M (e ∷ rec) (suc k) b g = leftover-next M rec k (omega arith) (cleared M e g)
 
 module _ (M : FieldModel) (L : FieldLaws M) (n : ℕ) where
   open Field (field-of M L) using (zer, one, _⊗_, neg)

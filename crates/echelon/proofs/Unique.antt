@@ -1,4 +1,4 @@
--- A reduced record is known by the tables that fit it: at-most-one, one-form, same-fits.
+-- A reduced record is known by the tables that fit it: at-most-one, one-form. Records equal at the n members: same-fits, same-reduced, same-form.
 -- Assumes nothing.
 use mathlib.Core.Path.{_≡_, refl, sym, ap, ap₂, _∙_}
 use mathlib.Core.Logic.{_≢_, _⊎_, inl, inr}
@@ -8,8 +8,8 @@ use native.Mathlib.Decide.{ℕ-discrete, decLt}
 use native.Mathlib.Omega.{arith}
 use lib.ListN.{length}
 use Rattle.field.specs.Model.{FieldModel, FieldLaws}
-use Rattle.echelon.specs.Rows.{Vector, Codes, sum, Fits}
-use Rattle.echelon.specs.Reduced.{Pivoted, at, all-figured, Reduced}
+use Rattle.echelon.specs.Rows.{Vector, Codes, sum, Figured, Fits}
+use Rattle.echelon.specs.Reduced.{Pivoted, at, all-figured, Reduced, ReducedForm, Same}
 use Rattle.echelon.specs.Witness.{Free, base, direction}
 use Rattle.echelon.specs.Theorems.{At-most-one, One-form, Same-fits}
 use Rattle.echelon.proofs.Field.{Field, plus-cancel, zero-right, one-right, difference-zero}
@@ -202,3 +202,44 @@ same-fits M n rec rec′ same t fits =
     let h : a < length rec = omega (arith, same .lengths) in
     sum-cong M n (at rec′ a .weights) (at rec a .weights) t t (λ m l. sym (same .weights a m h l)) (λ m l. refl)
     ∙ fits-at M n rec t fits a h ∙ same .figures a h)
+
+module _ (n : ℕ) (rec rec′ : List Pivoted) (same : Same n rec rec′) where
+  pub same-sym : Same n rec′ rec
+  same-sym =
+      let shorter : (a : ℕ) → a < length rec′ → a < length rec = λ a b. omega (arith, same .lengths) in
+      record {
+        lengths = sym (same .lengths);
+        pivots = λ a b. sym (same .pivots a (shorter a b));
+        figures = λ a b. sym (same .figures a (shorter a b));
+        weights = λ a m b h. sym (same .weights a m (shorter a b) h);
+      }
+
+  pub same-reduced : (M : FieldModel) → Reduced M n rec → Reduced M n rec′
+  same-reduced M R =
+      let short : (a : ℕ) → a < length rec′ → a < length rec = λ a b. omega (arith, same .lengths) in
+      let pivot : (a : ℕ) → a < length rec′ → at rec′ a .pivot ≡ at rec a .pivot = λ a b. sym (same .pivots a (short a b)) in
+      let weight : (a m : ℕ) → a < length rec′ → m < n → at rec′ a .weights m ≡ at rec a .weights m =
+      λ a m b h. sym (same .weights a m (short a b) h)
+      in
+      let within : (a : ℕ) → a < length rec′ → at rec a .pivot < n = λ a b. R .pivot-below a (short a b) in
+      let at-pivot : (a b : ℕ) → a < length rec′ → b < length rec′ → at rec′ a .weights (at rec′ b .pivot) ≡ at rec a .weights (at rec b .pivot) =
+      λ a b h k. ap (at rec′ a .weights) (pivot b k) ∙ weight a (at rec b .pivot) h (within b k)
+      in
+      record {
+        weights-codes = λ a b m h. omega (arith, weight a m b h, R .weights-codes a (short a b) m h);
+        figure-code = λ a b. omega (arith, same .figures a (short a b), R .figure-code a (short a b));
+        pivot-below = λ a b. omega (arith, pivot a b, within a b);
+        pivots-rise = λ a b l h. omega (arith, pivot a (omega arith), pivot b h, R .pivots-rise a b l (short b h));
+        own-pivot = λ a b. at-pivot a a b b ∙ R .own-pivot a (short a b);
+        lowest-named = λ a m b h.
+            let k : m < at rec a .pivot = omega (arith, pivot a b) in
+            weight a m b (omega (arith, within a b)) ∙ R .lowest-named a m (short a b) k;
+        other-pivots = λ a b h k d. at-pivot a b h k ∙ R .other-pivots a b (short a h) (short b k) d;
+      }
+
+  pub same-form : (M : FieldModel) (given : List Figured) → ReducedForm M n given rec → ReducedForm M n given rec′
+  same-form M given G = record {
+    reduced = same-reduced M (G .reduced);
+    fits = λ t ct f. same-fits M n rec rec′ same t (G .fits t ct f);
+    given-fits = λ t ct f. G .given-fits t ct (same-fits M n rec′ rec same-sym t f);
+  }

@@ -1,5 +1,4 @@
--- What a row with its figure comes to over a table of elements: value. It is linear, so what is left over keeps it: leftover-value.
--- fit-value and agree-value read a fit and an agreement as a value of 0.
+-- The value of a row with its figure over a table of elements, which clearing keeps: value, leftover-value, fit-value, agree-value.
 -- Assumes nothing.
 use mathlib.Core.Path.{_≡_, refl, sym, ap, ap₂, _∙_}
 use mathlib.Core.Logic.{_⊎_, inl, inr, _↔_}
