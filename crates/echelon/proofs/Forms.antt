@@ -8,11 +8,10 @@ use native.Mathlib.Decide.{ℕ-discrete}
 use native.Mathlib.Omega.{arith}
 use lib.ListN.{length}
 use Rattle.field.specs.Model.{FieldModel, FieldLaws}
-use Rattle.echelon.specs.Rows.{Vector, Codes, sum, Figured, rows-of, Agree, Fits, Fixes}
+use Rattle.echelon.specs.Rows.{RowsCodes, Vector, Codes, sum, Figured, rows-of, Agree, Fits, Fixes}
 use Rattle.echelon.specs.Reduced.{Pivoted, at, all-figured, FitsGiven}
 use Rattle.echelon.specs.Witness.{base}
-use Rattle.echelon.specs.Theorems.{Form-grown}
-use Rattle.echelon.specs.Coded.{RowsCodes, Coded-form-agrees, Coded-form-kept}
+use Rattle.echelon.specs.Theorems.{Form-agrees, Form-kept, Form-grown}
 use Rattle.echelon.proofs.Field.{Field, plus-cancel, zero-right, difference-zero, neg-times}
 use Rattle.echelon.proofs.Codes.{field-of, elt, elt-path, elt-one, elt-opposite, one-code, sum-below, along, along-codes, elt-sum-along}
 use Rattle.echelon.proofs.Indexed.{fits-at, at-fits, agree-at, at-agree}
@@ -101,7 +100,7 @@ module _ (M : FieldModel) (L : FieldLaws M) (n : ℕ) (b t u : Vector) (cb : Cod
   moved-from [] codes agree = tt
   moved-from (r ∷ rows) codes agree = (moved-row r (codes .0) .1 (agree .0), moved-from rows (codes .1) (agree .1))
 
-pub form-agrees : Coded-form-agrees
+pub form-agrees : Form-agrees
 form-agrees M L n given rec G codes t u ct cu =
     let (cb, fb) = base-fits M L n rec (G .reduced) in
     let B = base rec in
@@ -117,7 +116,7 @@ form-agrees M L n given rec G codes t u ct cu =
           moved-from M L n B t u cb ct cu (rows-of given) codes (given-agree M n given B w cb cw gb (G .given-fits w cw fw)),
     )
 
-pub form-kept : Coded-form-kept
+pub form-kept : Form-kept
 form-kept M L n given rec G codes g fixes =
     let known : Fixes M n (rows-of given) (g .row) =
     λ t u ct cu agree. fixes t u ct cu (form-agrees M L n given rec G codes t u ct cu .0 agree)

@@ -3,4 +3,3 @@ pub mod Reduced
 pub mod Elimination
 pub mod Witness
 pub mod Theorems
-pub mod Coded

@@ -1,5 +1,6 @@
 -- Rows with figures, and what they tell of tables, over every field and every count n of members.
 --   Figured             a row with the figure given for it
+--   RowsCodes M n rows  each row's weights are elements
 --   Agree M n rows t u  two tables have the same sum over each of the rows
 --   Fits M n given t    a table has each figure as its sum
 --   Pins M n rows i     any two tables that agree on the rows are equal at member i
@@ -18,6 +19,10 @@ pub record Figured : Type 0 where
 
 abbrev pub rows-of : List Figured → List Vector
 rows-of given = map (λ g. g .row) given
+
+abbrev pub RowsCodes : FieldModel → ℕ → List Vector → Type 0
+RowsCodes M n [] = Unit {0}
+RowsCodes M n (r ∷ rows) = Codes M n r × RowsCodes M n rows
 
 abbrev pub Agree : FieldModel → ℕ → List Vector → Vector → Vector → Type 0
 Agree M n [] t u = Unit {0}

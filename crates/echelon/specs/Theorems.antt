@@ -6,7 +6,7 @@ use mathlib.Core.List.{List, [], _∷_}
 use Prim.Native.Nat.{ℕ, _≤_, _<_}
 use lib.ListN.{length}
 use Rattle.field.specs.Model.{FieldModel, FieldLaws}
-use Rattle.echelon.specs.Rows.{Vector, Codes, minus, sum, Figured, rows-of, Agree, Fits, Pins, Fixes}
+use Rattle.echelon.specs.Rows.{Vector, Codes, minus, sum, Figured, rows-of, RowsCodes, Agree, Fits, Pins, Fixes}
 use Rattle.echelon.specs.Reduced.{Pivoted, at, Reduced, Alone, all-figured, ReducedForm, Same}
 use Rattle.echelon.specs.Elimination.{leftover, scaled, with-pivot, joined}
 use Rattle.echelon.specs.Witness.{Free, base, direction, Witness}
@@ -88,6 +88,7 @@ Joined-form =
 abbrev pub Form-agrees : Type 0
 Form-agrees =
     (M : FieldModel) → FieldLaws M → (n : ℕ) (given : List Figured) (rec : List Pivoted) → ReducedForm M n given rec
+    → RowsCodes M n (rows-of given)
     → (t u : Vector) → Codes M n t → Codes M n u
     → (Agree M n (rows-of given) t u → Agree M n (rows-of (all-figured rec)) t u)
     × (Agree M n (rows-of (all-figured rec)) t u → Agree M n (rows-of given) t u)
@@ -96,6 +97,7 @@ Form-agrees =
 abbrev pub Form-kept : Type 0
 Form-kept =
     (M : FieldModel) → FieldLaws M → (n : ℕ) (given : List Figured) (rec : List Pivoted) → ReducedForm M n given rec
+    → RowsCodes M n (rows-of given)
     → (g : Figured) → Fixes M n (rows-of (all-figured rec)) (g .row) → ReducedForm M n (g ∷ given) rec
 
 -- A reduced record that the tables fit which fitted the one before and have the new figure is the reduced form with

@@ -1,6 +1,5 @@
 // The theory of the record: reduced echelon form over every field. Each function stands for the theorem in its contract.
-ghost use Rattle.echelon.specs.Theorems.{Pinned-alone, Base-fits, Direction-free, Witness-fits, At-most-one, Fixed-leaves-nothing, Leftover-fits, Joined-form, Form-grown, One-form, Same-fits};
-ghost use Rattle.echelon.specs.Coded.{Coded-form-agrees, Coded-form-kept};
+ghost use Rattle.echelon.specs.Theorems.{Pinned-alone, Base-fits, Direction-free, Witness-fits, At-most-one, Fixed-leaves-nothing, Leftover-fits, Joined-form, Form-agrees, Form-kept, Form-grown, One-form, Same-fits};
 
 pub fn pinned_alone()
     ensures { λ _. ⌜ Pinned-alone ⌝ }
@@ -35,11 +34,11 @@ pub fn joined_form()
 {}
 
 pub fn form_agrees()
-    ensures { λ _. ⌜ Coded-form-agrees ⌝ }
+    ensures { λ _. ⌜ Form-agrees ⌝ }
 {}
 
 pub fn form_kept()
-    ensures { λ _. ⌜ Coded-form-kept ⌝ }
+    ensures { λ _. ⌜ Form-kept ⌝ }
 {}
 
 pub fn form_grown()
