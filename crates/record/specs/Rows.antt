@@ -25,6 +25,5 @@ pub record SameRow (n : ℕ) (g h : Figured) : Type 0 where
   pub rows : (m : ℕ) → m < n → g .row m ≡ h .row m
   pub figures : g .figure ≡ h .figure
 
-pub record CodedRow (M : FieldModel) (n : ℕ) (g : Figured) : Type 0 where
-  pub weights : Codes M n (g .row)
-  pub figure : g .figure < M .size
+abbrev pub CodedRow : FieldModel → ℕ → Figured → Type 0
+CodedRow M n g = Codes M n (g .row) × (g .figure < M .size)

@@ -16,4 +16,7 @@ pub struct RecordRow {
     pub row: FiguredRow,
 }
 
+mod checks;
 mod steps;
+
+pub use checks::check_row;

@@ -2,10 +2,9 @@
 ghost use mathlib.Core.Path.{_≡_};
 ghost use mathlib.Core.Logic.{_≢_};
 ghost use Prim.Native.Nat.{ℕ, _<_, _≤_};
+ghost use lib.ListN.{length};
 ghost use Rattle.std.specs.Options.{Cases};
-ghost use Rattle.std.specs.Orderings.{When};
 ghost use Rattle.field.specs.Sums.{minus, weights-of};
-ghost use Rattle.echelon.specs.Reduced.{Alone};
 ghost use Rattle.echelon.specs.Elimination.{cleared, scaled};
 ghost use Rattle.record.specs.Rows.{figured-row, pivoted, figured-record-row, SameRow, CodedRow};
 use crate::rows::FiguredRow;
@@ -67,16 +66,32 @@ impl FiguredRow {
         None
     }
 
-    // Whether every member but one has weight 0.
-    pub fn names_no_other(&self, than: Member, n: usize) -> bool
+    // The lowest named member other than one.
+    pub fn lowest_other(&self, than: Member, n: usize) -> Option<Member>
         requires few { ⌜ n ≤ 64 ⌝ }
-        ensures { λ r. ⌜ When r ((m : ℕ) → m < n → m ≢ than .0 → weights-of (now (self .entry) .weights) m ≡ 0) ((m : ℕ) × (m < n) × (m ≢ than .0) × (weights-of (now (self .entry) .weights) m ≢ 0)) ⌝ }
+        ensures { λ r. ⌜ Cases r ((m : ℕ) → m < n → m ≢ than .0 → weights-of (now (self .entry) .weights) m ≡ 0) (λ p. (p .0 < n) × (p .0 ≢ than .0) × (weights-of (now (self .entry) .weights) (p .0) ≢ 0) × ((m : ℕ) → m < p .0 → m ≢ than .0 → weights-of (now (self .entry) .weights) m ≡ 0)) ⌝ }
     {
         for m in 0..n {
             if m != than.0 && self.weights[m].0 != 0 {
-                return false;
+                return Some(Member(m));
             }
         }
-        true
+        None
+    }
+
+    // The row of some weights, 0 past the last, with a figure.
+    pub fn of(weights: &[Element], figure: Element) -> FiguredRow
+        requires few { ⌜ length (now weights) ≤ 64 ⌝ }
+        ensures row { λ r. ⌜ ((m : ℕ) → weights-of (r .weights) m ≡ weights-of (now (weights .entry)) m) ⌝ }
+        ensures figure { λ r. ⌜ r .figure ≡ figure ⌝ }
+    {
+        let mut row = FiguredRow {
+            weights: [Element(0); 64],
+            figure,
+        };
+        for (m, weight) in weights.iter().enumerate() {
+            row.weights[m] = *weight;
+        }
+        row
     }
 }

@@ -1,0 +1,4 @@
+pub mod Checks
+pub mod Weights
+pub mod Views
+pub mod Alone
