@@ -22,9 +22,9 @@ pub not-alone : (n : ℕ) (w : Vector) (i p : ℕ) → p < n → p ≢ i → w p
 not-alone n w i p below ne named alone = named (alone .1 p below ne)
 
 module _
-  (M : FieldModel) (L : FieldLaws M) (n : ℕ) (rec : List Pivoted) (R : Reduced M n rec) (none : NoneAlone n rec)
-  (e : Pivoted) (ep : e .pivot < n) (ce : CodedRow M n (figured e))
-  (own : e .weights (e .pivot) ≡ 1) (others : (a : ℕ) → a < length rec → e .weights (at rec a .pivot) ≡ 0) where
+    (M : FieldModel) (L : FieldLaws M) (n : ℕ) (rec : List Pivoted) (R : Reduced M n rec) (none : NoneAlone n rec)
+    (e : Pivoted) (ep : e .pivot < n) (ce : CodedRow M n (figured e))
+    (own : e .weights (e .pivot) ≡ 1) (others : (a : ℕ) → a < length rec → e .weights (at rec a .pivot) ≡ 0) where
   abbrev cleared-weights : ℕ → Vector
   cleared-weights a = pivot-cleared M e (at rec a) .weights
 
@@ -43,17 +43,17 @@ module _
   AloneAt a = Alone n (cleared-weights a) (at rec a .pivot)
 
   pub alone-found :
-    (g : Figured) (a : ℕ) (x : Pivoted) → a < length rec → at rec a ≡ x → SameRow n g (cleared M e (figured x))
-    → ((m : ℕ) → m < n → m ≢ x .pivot → g .row m ≡ 0) → AloneAt a
+      (g : Figured) (a : ℕ) (x : Pivoted) → a < length rec → at rec a ≡ x → SameRow n g (cleared M e (figured x))
+      → ((m : ℕ) → m < n → m ≢ x .pivot → g .row m ≡ 0) → AloneAt a
   alone-found g a x h is same zero = (
     λ z. let one : _≡_ {A = ℕ} 1 0 = sym (still-one a h) ∙ z in omega arith,
     λ m b ne.
-      ap (λ y. cleared M e (figured y) .row m) is ∙ sym (same .rows m b) ∙ zero m b (λ z. ne (z ∙ ap (λ y. y .pivot) (sym is))),
+        ap (λ y. cleared M e (figured y) .row m) is ∙ sym (same .rows m b) ∙ zero m b (λ z. ne (z ∙ ap (λ y. y .pivot) (sym is))),
   )
 
   pub alone-missed :
-    (g : Figured) (a p : ℕ) (x : Pivoted) → at rec a ≡ x → SameRow n g (cleared M e (figured x)) → p < n → p ≢ x .pivot → g .row p ≢ 0
-    → AloneAt a → ⊥
+      (g : Figured) (a p : ℕ) (x : Pivoted) → at rec a ≡ x → SameRow n g (cleared M e (figured x)) → p < n → p ≢ x .pivot → g .row p ≢ 0
+      → AloneAt a → ⊥
   alone-missed g a p x is same below ne named alone =
       named (same .rows p below ∙ ap (λ y. cleared M e (figured y) .row p) (sym is) ∙ alone .1 p below (λ z. ne (z ∙ ap (λ y. y .pivot) is)))
 
@@ -61,30 +61,30 @@ module _
   lower : (a : ℕ) → a < length rec → AloneAt a → at rec a .pivot < e .pivot
   lower a h alone =
       elim (decLt (e .pivot) (at rec a .pivot)) [
-        yes above ↦
-          absurd (none a h
+        | yes above ↦
+            absurd (none a h
             (λ z. alone .0 (unchanged a h above _ (R .pivot-below a h) ∙ z), λ m b ne. sym (unchanged a h above m b) ∙ alone .1 m b ne))
-      | no not-above ↦
-          elim (ℕ-discrete (at rec a .pivot) (e .pivot)) [
-            yes same ↦ let one : _≡_ {A = ℕ} 1 0 = sym own ∙ ap (e .weights) (sym same) ∙ others a h in absurd (omega arith)
-          | no ne ↦ omega arith
-          ]
+        | no not-above ↦
+            elim (ℕ-discrete (at rec a .pivot) (e .pivot)) [
+              | yes same ↦ let one : _≡_ {A = ℕ} 1 0 = sym own ∙ ap (e .weights) (sym same) ∙ others a h in absurd (omega arith)
+              | no ne ↦ omega arith
+            ]
       ]
 
   in-order : (a b : ℕ) → a < length rec → b < length rec → at rec b .pivot < at rec a .pivot → b < a
   in-order a b ha hb less =
       elim (decLt b a) [
-        yes h ↦ h
-      | no h ↦
-          elim (ℕ-discrete a b) [
-            yes same ↦ absurd (let e = ap (λ k. at rec k .pivot) same in omega arith)
-          | no ne ↦ absurd (let up : at rec a .pivot < at rec b .pivot = R .pivots-rise a b (omega arith) hb in omega arith)
-          ]
+        | yes h ↦ h
+        | no h ↦
+            elim (ℕ-discrete a b) [
+              | yes same ↦ absurd (let e = ap (λ k. at rec k .pivot) same in omega arith)
+              | no ne ↦ absurd (let up : at rec a .pivot < at rec b .pivot = R .pivots-rise a b (omega arith) hb in omega arith)
+            ]
       ]
 
   -- the first row that stands alone has the lowest member that does
   pub row-is-lowest :
-    (a : ℕ) → a < length rec → AloneAt a → ((b : ℕ) → b < a → AloneAt b → ⊥) → Lowest (AloneWith M n rec e) (at rec a .pivot)
+      (a : ℕ) → a < length rec → AloneAt a → ((b : ℕ) → b < a → AloneAt b → ⊥) → Lowest (AloneWith M n rec e) (at rec a .pivot)
   row-is-lowest a h alone before = record { holds = inl (a, h, refl, alone); none-below = below }
     where
       below : (k : ℕ) → k < at rec a .pivot → AloneWith M n rec e k → ⊥

@@ -2,3 +2,5 @@ pub mod Checks
 pub mod Weights
 pub mod Views
 pub mod Alone
+pub mod Join
+pub mod Shaped

@@ -80,3 +80,9 @@ abbrev pub AloneWith : FieldModel → ℕ → List Pivoted → Pivoted → ℕ �
 AloneWith M n rec e i =
     ((a : ℕ) × (a < length rec) × (at rec a .pivot ≡ i) × Alone n (pivot-cleared M e (at rec a) .weights) i)
     ⊎ ((e .pivot ≡ i) × Alone n (e .weights) i)
+
+-- two record rows are equal, at the n members
+pub record SamePivoted (n : ℕ) (d e : Pivoted) : Type 0 where
+  pub pivots : d .pivot ≡ e .pivot
+  pub weights : (m : ℕ) → m < n → d .weights m ≡ e .weights m
+  pub figures : d .figure ≡ e .figure

@@ -22,6 +22,7 @@ pub struct Record<F> {
 }
 
 mod eliminate;
+mod join;
 mod make;
 
 pub use make::NoRecord;

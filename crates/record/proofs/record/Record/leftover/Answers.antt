@@ -32,11 +32,10 @@ loop-by-again g c =
     let start = figured-row (c .of-left .result) in
     let here = facts-of M r sl (c .as-slice-by-items .ensures .value) (c .pre .sound) a (c .loop-by-test .taken) in
     let step : leftover M (take (a + 1) (rec-of r)) start ≡ cleared M (pivoted x) (leftover M (take a (rec-of r)) start) =
-      ap (λ k. leftover M (take k (rec-of r)) start) (add-one a)
-      ∙ leftover-next M (rec-of r) a (here .below) start
-      ∙ ap (λ e. cleared M e (leftover M (take a (rec-of r)) start)) (here .is) in
-    let moved = cleared-same M (r .count) (pivoted x) (figured-row (c .loop-by .left)) (leftover M (take a (rec-of r)) start) (here .pivot) (c .loop-by .inv .0) in
-    (
+    ap (λ k. leftover M (take k (rec-of r)) start) (add-one a)
+    ∙ leftover-next M (rec-of r) a (here .below) start
+    ∙ ap (λ e. cleared M e (leftover M (take a (rec-of r)) start)) (here .is) in
+    let moved = cleared-same M (r .count) (pivoted x) (figured-row (c .loop-by .left)) (leftover M (take a (rec-of r)) start) (here .pivot) (c .loop-by .inv .0) in (
       subst (λ (h : Figured). SameRow (r .count) (figured-row (c .clear .last .self)) h) (sym step) (same-trans (c .clear .ensures .is) moved),
       c .clear .ensures .coded,
     )
@@ -49,8 +48,8 @@ returns g c =
     let whole = take-all (c .loop-by .by-index) (rec-of r) (simp length-map (omega (arith, c .as-slice-by-items .ensures .len))) in
     record {
       is = same-trans
-        (subst (λ (l : List Pivoted). SameRow (r .count) (figured-row (c .loop-by .left)) (leftover M l start)) whole (c .loop-by .inv .0))
-        (leftover-same M (r .count) (rec-of r) start (given-row (c .args .weights .now) (c .args .figure .0)) (r .«pivots_below»)
-        (record { rows = λ m b. c .of-left .ensures .row m; figures = ap (λ e. e .0) (c .of-left .ensures .figure) }));
+          (subst (λ (l : List Pivoted). SameRow (r .count) (figured-row (c .loop-by .left)) (leftover M l start)) whole (c .loop-by .inv .0))
+          (leftover-same M (r .count) (rec-of r) start (given-row (c .args .weights .now) (c .args .figure .0)) (r .«pivots_below»)
+          (record { rows = λ m b. c .of-left .ensures .row m; figures = ap (λ e. e .0) (c .of-left .ensures .figure) }));
       coded = c .loop-by .inv .1;
     }

@@ -29,8 +29,8 @@ returns-in-rest g c =
     let x = getD (c .as-slice-row-items .result .now) a no-record-row in
     let here = facts-of M r (c .as-slice-row-items .result .now) (c .as-slice-row-items .ensures .value) (c .pre .sound) a (c .loop-row-test .taken) in
     let found =
-      alone-found M L (r .count) (rec-of r) R (r .«none_alone») e (c .pre .pivot) (c .pre .coded) (c .pre .own) (c .pre .others)
-      (figured-row (c .clear .last .self)) a (pivoted x) (here .below) (here .is) (c .clear .ensures .is) (c .in-rest .ensures tt) in
+    alone-found M L (r .count) (rec-of r) R (r .«none_alone») e (c .pre .pivot) (c .pre .coded) (c .pre .own) (c .pre .others)
+    (figured-row (c .clear .last .self)) a (pivoted x) (here .below) (here .is) (c .clear .ensures .is) (c .in-rest .ensures tt) in
     subst (λ (y : Pivoted). Lowest (AloneWith M (r .count) (rec-of r) e) (y .pivot)) (here .is)
     (row-is-lowest M L (r .count) (rec-of r) R (r .«none_alone») e (c .pre .pivot) (c .pre .coded) (c .pre .own) (c .pre .others) a (here .below) found (c .loop-row .inv))
 
@@ -47,7 +47,7 @@ loop-row-again g c =
     let other = c .in-Some .ensures tt in
     below-more _ _ (c .loop-row .inv)
     (alone-missed M L (r .count) (rec-of r) R (r .«none_alone») e (c .pre .pivot) (c .pre .coded) (c .pre .own) (c .pre .others)
-      (figured-row (c .clear .last .self)) a (c .in-Some .field-0 .0) (pivoted x) (here .is) (c .clear .ensures .is) (other .0) (other .1) (other .2))
+    (figured-row (c .clear .last .self)) a (c .in-Some .field-0 .0) (pivoted x) (here .is) (c .clear .ensures .is) (other .0) (other .1) (other .2))
 
 pub returns-in-Some-lowest-other : need.returns-in-Some-lowest-other
 returns-in-Some-lowest-other g c =
