@@ -51,13 +51,13 @@ module _ (f : Pivoted → Pivoted) (x : Pivoted) where
   put-high (suc k) (e ∷ rec) h (suc a) l b = put-high k rec (omega arith) a (omega arith) (omega arith)
 
   -- what stands at place b: x, or what f makes of row a
-  data Spot (k : ℕ) (rec : List Pivoted) (b : ℕ) : Type 0 where
+  pub data Spot (k : ℕ) (rec : List Pivoted) (b : ℕ) : Type 0 where
     new : b ≡ k → at (put f x k rec) b ≡ x → Spot k rec b
     old :
         (a : ℕ) → a < length rec → at (put f x k rec) b ≡ f (at rec a) → ((a < k) × (b ≡ a)) ⊎ ((k ≤ a) × (b ≡ suc a))
         → Spot k rec b
 
-  spot : (k : ℕ) (rec : List Pivoted) → k ≤ length rec → (b : ℕ) → b < length (put f x k rec) → Spot k rec b
+  pub spot : (k : ℕ) (rec : List Pivoted) → k ≤ length rec → (b : ℕ) → b < length (put f x k rec) → Spot k rec b
   spot k rec h b l = from b (omega (arith, put-length k rec h)) (decLt b k) (ℕ-discrete b k)
     where
       from : (b : ℕ) → b < suc (length rec) → Dec (b < k) → Dec (b ≡ k) → Spot k rec b
@@ -67,7 +67,7 @@ module _ (f : Pivoted → Pivoted) (x : Pivoted) where
       from (suc a) l (no p) (no q) = old a (omega arith) (put-high k rec h a (omega arith) (omega arith)) (inr (omega arith, refl))
 
   -- every row of the record is somewhere
-  kept-spot : (k : ℕ) (rec : List Pivoted) → k ≤ length rec → (a : ℕ) → a < length rec → (b : ℕ) × (b < length (put f x k rec)) × (at (put f x k rec) b ≡ f (at rec a))
+  pub kept-spot : (k : ℕ) (rec : List Pivoted) → k ≤ length rec → (a : ℕ) → a < length rec → (b : ℕ) × (b < length (put f x k rec)) × (at (put f x k rec) b ≡ f (at rec a))
   kept-spot k rec h a l =
       elim (decLt a k) [
         | yes p ↦ (a, omega (arith, put-length k rec h), put-low k rec h a p)
@@ -95,10 +95,10 @@ module _ (M : FieldModel) (L : FieldLaws M) (n : ℕ) (rec : List Pivoted) (R : 
   abbrev fresh : Pivoted
   fresh = with-pivot p (scaled M factor left)
 
-  fresh-codes : FigCodes M n (figured fresh)
+  pub fresh-codes : FigCodes M n (figured fresh)
   fresh-codes = scaled-codes M L n factor left factor-code left-c
 
-  fresh-own : fresh .weights p ≡ 1
+  pub fresh-own : fresh .weights p ≡ 1
   fresh-own = L .times-comm factor (left .row p) factor-code (left-c .0 p below) ∙ L .times-inverse (left .row p) (left-c .0 p below) named
 
   fresh-none : (m : ℕ) → left .row m ≡ 0 → fresh .weights m ≡ 0
@@ -107,7 +107,7 @@ module _ (M : FieldModel) (L : FieldLaws M) (n : ℕ) (rec : List Pivoted) (R : 
       ∙ elt-path M L (M .times factor 0) 0 (L .times-below factor 0 factor-code (zero-code M L)) (zero-code M L)
       (elt-times M L factor 0 factor-code (zero-code M L) ∙ ap (λ x. elt M L factor ⊗ x) (elt-zero M L) ∙ times-zero (field-of M L) (elt M L factor) ∙ sym (elt-zero M L))
 
-  fresh-pivot : (a : ℕ) → a < length rec → fresh .weights (at rec a .pivot) ≡ 0
+  pub fresh-pivot : (a : ℕ) → a < length rec → fresh .weights (at rec a .pivot) ≡ 0
   fresh-pivot a b = fresh-none (at rec a .pivot) (left-pivot M L n rec R g cg a b)
 
   -- a record row cleared by the new row

@@ -4,3 +4,4 @@ pub mod Views
 pub mod Alone
 pub mod Join
 pub mod Shaped
+pub mod Judging
