@@ -12,12 +12,13 @@ use Rattle.server.specs.Checks.{Lowest}
 use Rattle.echelon.specs.Rows.{Figured, rows-of, Agree, Fits, Pins, Fixes}
 use Rattle.echelon.specs.Reduced.{Pivoted, at, figured, all-figured, Alone, Reduced}
 use Rattle.echelon.specs.Elimination.{leftover, scaled, with-pivot, pivot-cleared, joined}
-use Rattle.echelon.proofs.Codes.{sum-none}
+use Rattle.field.proofs.Zero.{zero-code, zero-right}
+use Rattle.echelon.proofs.Codes.{sum-none, sum-below}
 use Rattle.echelon.proofs.Tables.{pinned-alone}
 use Rattle.echelon.proofs.Leftover.{leftover-fits, fixed-leaves-nothing}
 use Rattle.echelon.proofs.Joined.{put, put-length, spot, Spot, new, old, kept-spot, put-here, joined-form, fresh-codes, fresh-own, fresh-pivot}
 use Rattle.record.specs.Rows.{CodedRow}
-use Rattle.record.specs.Judged.{record-rows, PinnedWith, AloneWith}
+use Rattle.record.specs.Judged.{record-rows, PinnedWith, AloneWith, FixedFigure}
 
 module _ (M : FieldModel) (L : FieldLaws M) (n : ℕ) (rec : List Pivoted) (R : Reduced M n rec) (g : Figured) (cg : CodedRow M n g) where
   abbrev pub left : Figured
@@ -44,20 +45,20 @@ module _ (M : FieldModel) (L : FieldLaws M) (n : ℕ) (rec : List Pivoted) (R : 
     place-from zero h above = record { k = 0; within = h; before = λ a b. absurd (omega arith); after = above }
     place-from (suc k) h above =
         elim (decLt (at rec k .pivot) p) [
-          yes low ↦
-            record {
-              k = suc k;
-              within = h;
-              before = λ a b.
-                elim (ℕ-discrete a k) [
-                  yes same ↦ subst (λ (c : ℕ). at rec c .pivot < p) (sym same) low
-                | no ne ↦ let up = R .pivots-rise a k (omega arith) (omega arith) in omega arith
-                ];
-              after = above;
-            }
-        | no high ↦
-            let here : p < at rec k .pivot = let ne = new-pivot k (omega arith) in omega arith in
-            place-from k (omega arith) (λ a low b.
+          | yes low ↦
+              record {
+                k = suc k;
+                within = h;
+                before = λ a b.
+                    elim (ℕ-discrete a k) [
+                      | yes same ↦ subst (λ (c : ℕ). at rec c .pivot < p) (sym same) low
+                      | no ne ↦ let up = R .pivots-rise a k (omega arith) (omega arith) in omega arith
+                    ];
+                after = above;
+              }
+          | no high ↦
+              let here : p < at rec k .pivot = let ne = new-pivot k (omega arith) in omega arith in
+              place-from k (omega arith) (λ a low b.
               elim (ℕ-discrete a k) [ yes same ↦ subst (λ (c : ℕ). p < at rec c .pivot) (sym same) here | no ne ↦ above a (omega arith) b ])
         ]
 
@@ -107,8 +108,8 @@ module _ (M : FieldModel) (L : FieldLaws M) (n : ℕ) (rec : List Pivoted) (R : 
         from (found .0) (found .1) (found .2) (spot f fresh (P .k) rec (P .within) (found .0) (found .1))
       where
         from :
-          (b : ℕ) → b < length (joined M fresh (the-place .k) rec) → Alone n (at (joined M fresh (the-place .k) rec) b .weights) i
-          → Spot (pivot-cleared M fresh) fresh (the-place .k) rec b → AloneWith M n rec fresh i
+            (b : ℕ) → b < length (joined M fresh (the-place .k) rec) → Alone n (at (joined M fresh (the-place .k) rec) b .weights) i
+            → Spot (pivot-cleared M fresh) fresh (the-place .k) rec b → AloneWith M n rec fresh i
         from b h alone (new same is) =
             let alone-fresh : Alone n (fresh .weights) i = subst (λ (x : Pivoted). Alone n (x .weights) i) is alone in
             inr (alone-is (fresh .weights) p i below own alone-fresh, alone-fresh)
@@ -125,15 +126,34 @@ module _ (M : FieldModel) (L : FieldLaws M) (n : ℕ) (rec : List Pivoted) (R : 
         let J = joined M fresh (P .k) rec in
         let f = pivot-cleared M fresh in
         let at-row : (x : Pivoted) → (b : ℕ) → b < length J → at J b ≡ x → x .pivot ≡ i → Alone n (x .weights) i → PinnedWith M n rec (g .row) i =
-          λ x b hb is pivot alone.
-            let inside : i < n = subst (λ (q : ℕ). q < n) (ap (λ y. y .pivot) is ∙ pivot) (F .reduced .pivot-below b hb) in
-            let pins = pinned-alone M L n J (F .reduced) i inside .1 (b, hb, subst (λ (y : Pivoted). Alone n (y .weights) i) (sym is) alone) in
-            (inside, λ t u ct cu agree. pins t u ct cu (F .both-agree t u ct cu agree)) in
+        λ x b hb is pivot alone.
+        let inside : i < n = subst (λ (q : ℕ). q < n) (ap (λ y. y .pivot) is ∙ pivot) (F .reduced .pivot-below b hb) in
+        let pins = pinned-alone M L n J (F .reduced) i inside .1 (b, hb, subst (λ (y : Pivoted). Alone n (y .weights) i) (sym is) alone) in
+        (inside, λ t u ct cu agree. pins t u ct cu (F .both-agree t u ct cu agree)) in
         elim stands [
-          inl s ↦
-            let place = kept-spot f fresh (P .k) rec (P .within) (s .0) (s .1) in
-            at-row (f (at rec (s .0))) (place .0) (place .1) (place .2) (s .2) (s .3)
-        | inr s ↦
-            let size : length J ≡ suc (length rec) = put-length f fresh (P .k) rec (P .within) in
-            at-row fresh (P .k) (omega (arith, P .within)) (put-here f fresh (P .k) rec (P .within)) (s .0) (s .1)
+          | inl s ↦
+              let place = kept-spot f fresh (P .k) rec (P .within) (s .0) (s .1) in
+              at-row (f (at rec (s .0))) (place .0) (place .1) (place .2) (s .2) (s .3)
+          | inr s ↦
+              let size : length J ≡ suc (length rec) = put-length f fresh (P .k) rec (P .within) in
+              at-row fresh (P .k) (omega (arith, P .within)) (put-here f fresh (P .k) rec (P .within)) (s .0) (s .1)
         ]
+
+-- the figure that the record fixes, where the row was taken with the figure 0 and nothing of it is left
+pub fixed-figure :
+    (M : FieldModel) (L : FieldLaws M) (n : ℕ) (rec : List Pivoted) → Reduced M n rec → (r : Vector) → Codes M n r
+    → ((m : ℕ) → m < n → leftover M rec (record { row = r; figure = 0 }) .row m ≡ 0)
+    → FixedFigure M n rec r (M .opposite (leftover M rec (record { row = r; figure = 0 }) .figure))
+fixed-figure M L n rec R r cr none t ct fits =
+    let g : Figured = record { row = r; figure = 0 } in
+    let z = zero-code M L in
+    let facts = leftover-fits M L n rec R g cr z in
+    let own : minus M (sum M n r t) 0 ≡ sum M n r t = minus-zero (sum M n r t) (sum-below M L n r t cr ct) in
+    let zero-sum : sum M n (leftover M rec g .row) t ≡ 0 = sum-none M L n (leftover M rec g .row) t (facts .0) ct (λ m h. inl (none m h)) in
+    sym own ∙ facts .3 t ct fits ∙ ap (λ x. minus M x (leftover M rec g .figure)) zero-sum ∙ L .plus-zero _ (L .opposite-below _ (facts .1))
+  where
+    minus-zero : (a : ℕ) → a < M .size → minus M a 0 ≡ a
+    minus-zero a ha =
+        let o = L .plus-opposite 0 (zero-code M L) in
+        let none : M .opposite 0 ≡ 0 = sym (L .plus-zero _ (L .opposite-below 0 (zero-code M L))) ∙ o in
+        ap (M .plus a) none ∙ zero-right M L a ha

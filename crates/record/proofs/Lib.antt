@@ -5,3 +5,4 @@ pub mod Alone
 pub mod Join
 pub mod Shaped
 pub mod Judging
+pub mod Standing

@@ -88,8 +88,8 @@ set-other rows a b x ne = at-row (set rows a x) b ∙ ap pivoted (getD-set-other
 
 -- a record row that was cleared in memory
 pub cleared-row :
-  (M : FieldModel) (n : ℕ) (e d : Pivoted) (x y : RecordRow) → d ≡ pivoted x → x .pivot ≡ y .pivot
-  → SameRow n (figured (pivoted y)) (cleared M e (figured (pivoted x))) → SamePivoted n (pivoted y) (pivot-cleared M e d)
+    (M : FieldModel) (n : ℕ) (e d : Pivoted) (x y : RecordRow) → d ≡ pivoted x → x .pivot ≡ y .pivot
+    → SameRow n (figured (pivoted y)) (cleared M e (figured (pivoted x))) → SamePivoted n (pivoted y) (pivot-cleared M e d)
 cleared-row M n e d x y is pivot same =
     subst (λ (z : Pivoted). SamePivoted n (pivoted y) (pivot-cleared M e z)) (sym is)
     (record { pivots = ap (λ p. p .0) (sym pivot); weights = same .rows; figures = same .figures })

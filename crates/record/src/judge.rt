@@ -1,4 +1,5 @@
 // What the record answers when it is asked about a row.
+use crate::rows::RecordRow;
 use field::Element;
 use refusal::Member;
 
@@ -18,4 +19,12 @@ pub enum Admission {
     Joined,
     // The record fixes the row already, and is as it was.
     Kept,
+}
+
+// What is left over of a row: nothing but a figure, a row that would pin a member, or one that may join.
+#[derive(Clone, Copy)]
+pub enum Standing {
+    Fixed(Element),
+    Pinning(Member),
+    Fresh(RecordRow),
 }

@@ -21,6 +21,7 @@ pub struct Record<F> {
     ghost room: { count ≤ vec-cap rows },
 }
 
+mod calls;
 mod eliminate;
 mod join;
 mod make;

@@ -11,6 +11,8 @@ ghost use Rattle.echelon.specs.Elimination.{leftover, scaled};
 ghost use Rattle.record.specs.Rows.{figured-row, pivoted, SameRow, CodedRow};
 ghost use Rattle.record.specs.Records.{rec-of, Sound};
 ghost use Rattle.record.specs.Judged.{given-row, AloneWith};
+ghost use Rattle.record.specs.Standings.{Stands};
+use crate::judge::Standing;
 use crate::record::Record;
 use crate::rows::FiguredRow;
 use crate::rows::RecordRow;
@@ -64,6 +66,23 @@ impl<F: Field> Record<F> {
         match fresh.row.lowest_other(fresh.pivot, self.count) {
             Some(_) => None,
             None => Some(fresh.pivot),
+        }
+    }
+
+    // What a row with its figure would do to the record.
+    pub(crate) fn assess(&self, weights: &[Element], figure: Element) -> Standing
+        requires sound { ⌜ Sound model (now self) ⌝ }
+        requires length { ⌜ length (now weights) ≡ now self .count ⌝ }
+        requires coded { ⌜ CodedRow model (now self .count) (given-row (now weights) (figure .0)) ⌝ }
+        ensures { λ r. ⌜ Stands model (now (self .entry) .count) (rec-of (now (self .entry))) (given-row (now (weights .entry)) (figure .0)) r ⌝ }
+    {
+        let left = self.leftover(weights, figure);
+        let Some(fresh) = with_pivot::<F>(&left, self.count) else {
+            return Standing::Fixed(left.figure);
+        };
+        match self.lowest_alone(&fresh) {
+            Some(i) => Standing::Pinning(i),
+            None => Standing::Fresh(fresh),
         }
     }
 }

@@ -47,8 +47,8 @@ went-in g c =
     c .insert .ensures .succeeds (omega (arith, c .clear-rows .ensures .len, c .clear-rows .ensures .cap, r .room, r .rows .ok .0))
 
 rows-after :
-  (g : _) (c : After-insert g)
-  → Same (c .args .self .now .count) (joined (g .F·Field .model) (pivoted (c .args .fresh)) (c .args .k) (rec-of (c .args .self .now))) (all-pivoted (vec-items (c .insert .last .self)))
+    (g : _) (c : After-insert g)
+    → Same (c .args .self .now .count) (joined (g .F·Field .model) (pivoted (c .args .fresh)) (c .args .k) (rec-of (c .args .self .now))) (all-pivoted (vec-items (c .insert .last .self)))
 rows-after g c =
     let M = g .F·Field .model in
     let r = c .args .self .now in
@@ -56,23 +56,42 @@ rows-after g c =
     let size : length (rec-of r) ≡ length (vec-items (r .rows)) = rows-length _ in
     let size₁ : length (all-pivoted rows₁) ≡ length rows₁ = rows-length _ in
     let items : vec-items (c .insert .last .self) ≡ inserted rows₁ (c .args .k) (c .args .fresh) =
-      c .insert .ensures .items ∙ ap (λ b. cond b (inserted rows₁ (c .args .k) (c .args .fresh)) rows₁) (went-in g c) in
+    c .insert .ensures .items ∙ ap (λ b. cond b (inserted rows₁ (c .args .k) (c .args .fresh)) rows₁) (went-in g c) in
     subst (λ (l : List RecordRow). Same (r .count) (joined M (pivoted (c .args .fresh)) (c .args .k) (rec-of r)) (all-pivoted l)) (sym items)
     (same-joined M (r .count) (c .args .fresh) (vec-items (r .rows)) rows₁
-      (omega (arith, c .clear-rows .ensures .len, c .clear-rows .last .rows .ok .0, r .rows .ok .0))
-      (λ a h. c .clear-rows .ensures .is a (omega (arith, r .rows .ok .0))) (c .args .k) (c .pre .place))
+    (omega (arith, c .clear-rows .ensures .len, c .clear-rows .last .rows .ok .0, r .rows .ok .0))
+    (λ a h. c .clear-rows .ensures .is a (omega (arith, r .rows .ok .0))) (c .args .k) (c .pre .place))
 
 pub ghost-self : need.ghost-self
 ghost-self g c =
     let M = g .F·Field .model in
     let r = c .args .self .now in
     let same = rows-after g c in
-    let R = same-reduced (r .count) _ _ same M (c .pre .reduced) in
-    (r .members, (R .pivot-below, (R .pivots-rise, (R .own-pivot, (
-      (λ a m h. R .lowest-named a m (h .0) (h .1)), (
-      (λ a b h. R .other-pivots a b (h .0) (h .1) (h .2)), (
-      same-none-alone M (r .count) _ _ (c .pre .reduced) same (c .pre .none-alone), (
-      omega (arith, c .insert .ensures .capacity, c .clear-rows .ensures .cap, r .room), tt))))))))
+    let R = same-reduced (r .count) _ _ same M (c .pre .reduced) in (
+      r .members,
+      (
+        R .pivot-below,
+        (
+          R .pivots-rise,
+          (
+            R .own-pivot,
+            (
+              (λ a m h. R .lowest-named a m (h .0) (h .1)),
+              (
+                (λ a b h. R .other-pivots a b (h .0) (h .1) (h .2)),
+                (
+                  same-none-alone M (r .count) _ _ (c .pre .reduced) same (c .pre .none-alone),
+                  (
+                    omega (arith, c .insert .ensures .capacity, c .clear-rows .ensures .cap, r .room),
+                    tt,
+                  ),
+                ),
+              ),
+            ),
+          ),
+        ),
+      ),
+    )
 
 pub unreachable-requires : need.unreachable-requires
 unreachable-requires g c κs =

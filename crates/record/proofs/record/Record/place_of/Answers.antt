@@ -17,16 +17,16 @@ returns-then-row-pivot g c =
     let k = c .loop-a .a in
     let sl = c .as-slice-row-items .result .now in
     let here : at (rec-of r) k .pivot ≡ getD sl k no-record-row .pivot .0 =
-      ap (λ l. at (all-pivoted l) k .pivot) (sym (c .as-slice-row-items .ensures .value)) ∙ ap (λ p. p .pivot) (at-row sl k) in
+    ap (λ l. at (all-pivoted l) k .pivot) (sym (c .as-slice-row-items .ensures .value)) ∙ ap (λ p. p .pivot) (at-row sl k) in
     let size : length (rec-of r) ≡ length sl = length-map _ _ ∙ ap length (sym (c .as-slice-row-items .ensures .value)) in
     record {
       within = omega (arith, c .loop-a-test .taken);
       below = c .loop-a .inv;
       above = λ a low h.
-        elim (ℕ-discrete k a) [
-          yes same ↦ subst (λ (b : ℕ). c .args .pivot .0 ≤ at (rec-of r) b .pivot) same (omega (arith, c .if-row-pivot .taken))
-        | no ne ↦ let up : at (rec-of r) k .pivot < at (rec-of r) a .pivot = r .«pivots_rise» k a (omega arith) h in omega (arith, c .if-row-pivot .taken)
-        ];
+          elim (ℕ-discrete k a) [
+            | yes same ↦ subst (λ (b : ℕ). c .args .pivot .0 ≤ at (rec-of r) b .pivot) same (omega (arith, c .if-row-pivot .taken))
+            | no ne ↦ let up : at (rec-of r) k .pivot < at (rec-of r) a .pivot = r .«pivots_rise» k a (omega arith) h in omega (arith, c .if-row-pivot .taken)
+          ];
     }
 
 pub loop-a-again : need.loop-a-again
@@ -35,7 +35,7 @@ loop-a-again g c =
     let k = c .loop-a .a in
     let sl = c .as-slice-row-items .result .now in
     let here : at (rec-of r) k .pivot ≡ getD sl k no-record-row .pivot .0 =
-      ap (λ l. at (all-pivoted l) k .pivot) (sym (c .as-slice-row-items .ensures .value)) ∙ ap (λ p. p .pivot) (at-row sl k) in
+    ap (λ l. at (all-pivoted l) k .pivot) (sym (c .as-slice-row-items .ensures .value)) ∙ ap (λ p. p .pivot) (at-row sl k) in
     below-more (λ b. at (rec-of r) b .pivot < c .args .pivot .0) k (c .loop-a .inv) (omega (arith, c .if-row-pivot .left))
 
 pub returns : need.returns

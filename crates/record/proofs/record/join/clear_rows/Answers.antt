@@ -22,8 +22,8 @@ clear-requires g c κs =
     let x = c .index .result .now in
     let inside : a < length (vec-items (c .loop-a .rows)) = omega (arith, c .loop-a .inv .0, c .len-a-end .ensures) in
     let is : at (all-pivoted (vec-items (c .args .rows .now))) a ≡ pivoted x =
-      sym (c .loop-a .inv .3 a (omega arith)) ∙ at-row (vec-items (c .loop-a .rows)) a
-      ∙ ap pivoted (sym (getD-read _ a x inside (c .index .ensures) no-record-row)) in
+    sym (c .loop-a .inv .3 a (omega arith)) ∙ at-row (vec-items (c .loop-a .rows)) a
+    ∙ ap pivoted (sym (getD-read _ a x inside (c .index .ensures) no-record-row)) in
     record {
       few = c .pre .few;
       pivot = c .pre .pivot;
@@ -42,18 +42,17 @@ loop-a-again g c =
     let before = all-pivoted (vec-items (c .args .rows .now)) in
     let inside : a < length items = omega (arith, c .loop-a .inv .0, c .len-a-end .ensures) in
     let is : at before a ≡ pivoted x =
-      sym (c .loop-a .inv .3 a (omega arith)) ∙ at-row items a ∙ ap pivoted (sym (getD-read _ a x inside (c .index .ensures) no-record-row)) in
+    sym (c .loop-a .inv .3 a (omega arith)) ∙ at-row items a ∙ ap pivoted (sym (getD-read _ a x inside (c .index .ensures) no-record-row)) in
     let here : SamePivoted (c .args .n) (at (all-pivoted (set items a y)) a) (pivot-cleared M e (at before a)) =
-      subst (λ (p : Pivoted). SamePivoted (c .args .n) p (pivot-cleared M e (at before a))) (sym (set-here items a y inside))
-      (cleared-row M (c .args .n) e (at before a) x y is refl (c .clear .ensures .is)) in
-    (
+    subst (λ (p : Pivoted). SamePivoted (c .args .n) p (pivot-cleared M e (at before a))) (sym (set-here items a y inside))
+    (cleared-row M (c .args .n) e (at before a) x y is refl (c .clear .ensures .is)) in (
       c .loop-a .inv .0,
       c .loop-a .inv .1,
       λ b h.
-        elim (ℕ-discrete b a) [
-          yes same ↦ subst (λ (k : ℕ). SamePivoted (c .args .n) (at (all-pivoted (set items a y)) k) (pivot-cleared M e (at before k))) (sym same) here
-        | no ne ↦
-            subst (λ (p : Pivoted). SamePivoted (c .args .n) p (pivot-cleared M e (at before b))) (sym (set-other items a b y ne)) (c .loop-a .inv .2 b (omega arith))
-        ],
+          elim (ℕ-discrete b a) [
+            | yes same ↦ subst (λ (k : ℕ). SamePivoted (c .args .n) (at (all-pivoted (set items a y)) k) (pivot-cleared M e (at before k))) (sym same) here
+            | no ne ↦
+                subst (λ (p : Pivoted). SamePivoted (c .args .n) p (pivot-cleared M e (at before b))) (sym (set-other items a b y ne)) (c .loop-a .inv .2 b (omega arith))
+          ],
       λ b h. let ne : b ≢ a = omega arith in set-other items a b y ne ∙ c .loop-a .inv .3 b (omega arith),
     )
