@@ -1,0 +1,5 @@
+pub mod Tested
+pub mod Products
+pub mod Raising
+pub mod Generator
+pub mod Entries
