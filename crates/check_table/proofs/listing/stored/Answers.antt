@@ -1,3 +1,4 @@
+-- Answers for `stored`.
 use Rattle.std.proofs.shelf.Lists.{getD-past}
 use Rattle.check_table.proofs.listing.stored.Needs as need
 

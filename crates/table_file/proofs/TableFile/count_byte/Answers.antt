@@ -1,3 +1,4 @@
+-- Answers for `count_byte`: a missing byte counts as 0.
 use mathlib.Core.Path.{sym}
 use native.Mathlib.Omega.{arith}
 use borrow.Author.Tests.{tests}

@@ -1,3 +1,4 @@
+-- Answers for `open`: an accepted file means its table.
 use Rattle.table_file.proofs.Verdicts.{means}
 use Rattle.table_file.proofs.TableFile.open.Needs as need
 

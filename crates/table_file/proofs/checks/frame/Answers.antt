@@ -1,3 +1,4 @@
+-- Answers for `frame`: the map and the length that it calls for, and no sum that wraps.
 use mathlib.Core.Path.{sym, ap, _∙_}
 use native.Mathlib.Omega.{arith}
 use Rattle.member_map.specs.Maps.{map-length}

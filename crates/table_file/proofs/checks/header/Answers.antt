@@ -1,3 +1,4 @@
+-- Answers for `header`: which check of the header failed.
 use mathlib.Core.Path.{sym, _∙_}
 use mathlib.Core.Logic.{⊎-elim}
 use native.Mathlib.Omega.{arith}

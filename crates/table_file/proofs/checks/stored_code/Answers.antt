@@ -1,3 +1,4 @@
+-- Answers for `stored_code`: the code of a member, and no sum that wraps.
 use mathlib.Core.Path.{sym, _∙_}
 use native.Mathlib.Omega.{arith}
 use Rattle.table_file.proofs.Places.{few-bytes, bit-of, place-of, value-unnamed, value-named}

@@ -1,3 +1,4 @@
+-- Answers for `values`: the lowest fault, or none.
 use mathlib.Core.Path.{_≡_, refl, _∙_}
 use Prim.Native.Nat.{_<_}
 use native.Mathlib.Omega.{arith}

@@ -1,3 +1,4 @@
+-- The invariant of `values`: no member passed so far is faulty.
 use Prim.Native.Nat.{ℕ, _<_}
 use Rattle.table_file.specs.Files.{Faulty}
 use Rattle.table_file.proofs.checks.values.Given as given

@@ -1,3 +1,4 @@
+-- Answers for `count`: the length of a table, which the view always means.
 use mathlib.Core.Path.{sym, ap, _∙_}
 use Rattle.server.specs.Tables.{bounded}
 use Rattle.server.proofs.Listed.{listed-length, listed-table}

@@ -1,3 +1,4 @@
+-- Answers for `value`: the element of a member of the view.
 use mathlib.Core.Path.{sym, ap, _∙_}
 use native.Mathlib.Omega.{arith}
 use Rattle.server.specs.Tables.{element-or-zero}
