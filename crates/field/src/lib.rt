@@ -2,7 +2,7 @@
 ghost use mathlib.Core.Path.{_≡_};
 ghost use Prim.Native.Nat.{ℕ, _+_, _<_, _≤_};
 ghost use mathlib.Core.List.{_++_};
-ghost use lib.ListN.{length, drop};
+ghost use lib.ListN.{length, getD, drop};
 ghost use Rattle.std.specs.Options.{Cases};
 ghost use Rattle.field.specs.Model.{FieldModel, FieldLaws};
 ghost use Rattle.field.specs.Bytes.{width, written, code-at};
@@ -48,21 +48,25 @@ pub fn element_width<F: Field>() -> usize
     if F::size() <= 256 { 1 } else { 2 }
 }
 
-// The code in the first bytes; none where they are too few. It may stand for no element.
-pub fn decode<F: Field>(bytes: &[u8]) -> Option<Element>
-    ensures { λ r. ⌜ Cases r (length (now (bytes .entry)) < width model) (λ e. (width model ≤ length (now (bytes .entry))) × (e .0 ≡ code-at model (now (bytes .entry)) 0)) ⌝ }
+fn byte_at(bytes: &[u8], at: usize) -> u32
+    ensures is { λ r. ⌜ r ≡ getD (now (bytes .entry)) at 0 ⌝ }
+    ensures within { λ r. ⌜ r < 256 ⌝ }
 {
-    if F::size() <= 256 {
-        match bytes {
-            [code, ..] => Some(Element(u32::from(*code))),
-            _ => None,
-        }
-    } else {
-        match bytes {
-            [high, low, ..] => Some(Element(u32::from(*high) * 256 + u32::from(*low))),
-            _ => None,
-        }
+    match bytes.get(at) {
+        Some(byte) => u32::from(*byte),
+        None => 0,
     }
+}
+
+// The code that stands in the bytes from a place on, where missing bytes count as 0. It may stand for no element.
+pub fn decode<F: Field>(bytes: &[u8], at: usize) -> Element
+    ensures { λ r. ⌜ r .0 ≡ code-at model (now (bytes .entry)) at ⌝ }
+{
+    let first = byte_at(bytes, at);
+    if F::size() <= 256 {
+        return Element(first);
+    }
+    Element(first * 256 + byte_at(bytes, at.saturating_add(1)))
 }
 
 // Writes an element's bytes to the front of `out`, and answers how many. Where it is no element, or there is too

@@ -57,14 +57,14 @@ pub fn row_sum<S: Server>(server: &S, row: &[Element]) -> Element
 }
 
 // A count that every server may answer, 1 to 64: the given one wherever it is such.
-fn bounded_count(k: usize) -> usize
+pub fn bounded_count(k: usize) -> usize
     ensures { λ r. ⌜ r ≡ bounded k ⌝ }
 {
     k.min(64).max(1)
 }
 
 // An element that every server may answer: the given one wherever it is an element.
-fn element_or_zero<F: Field>(e: Element) -> Element
+pub fn element_or_zero<F: Field>(e: Element) -> Element
     ensures { λ r. ⌜ r .0 ≡ element-or-zero model (e .0) ⌝ }
 {
     if e.0 < F::size() { e } else { Element(0) }
