@@ -28,22 +28,22 @@ use Rattle.record.proofs.Judging.{Place, Form, form, new-pivot, not-fixed, not
 
 -- tables agree on equal records alike
 same-agree :
-  (M : FieldModel) (n : ℕ) (rec rec′ : List Pivoted) → Same n rec rec′ → (t u : Vector)
-  → Agree M n (record-rows rec) t u → Agree M n (record-rows rec′) t u
+    (M : FieldModel) (n : ℕ) (rec rec′ : List Pivoted) → Same n rec rec′ → (t u : Vector)
+    → Agree M n (record-rows rec) t u → Agree M n (record-rows rec′) t u
 same-agree M n rec rec′ same t u agree =
     at-agree M n rec′ t u (λ a h.
-      let h₁ : a < length rec = omega (arith, same .lengths) in
-      let weights : (m : ℕ) → m < n → at rec′ a .weights m ≡ at rec a .weights m = λ m b. sym (same .weights a m h₁ b) in
-      sum-cong M n _ _ t t weights (λ m b. refl) ∙ agree-at M n rec t u agree a h₁ ∙ sym (sum-cong M n _ _ u u weights (λ m b. refl)))
+    let h₁ : a < length rec = omega (arith, same .lengths) in
+    let weights : (m : ℕ) → m < n → at rec′ a .weights m ≡ at rec a .weights m = λ m b. sym (same .weights a m h₁ b) in
+    sum-cong M n _ _ t t weights (λ m b. refl) ∙ agree-at M n rec t u agree a h₁ ∙ sym (sum-cong M n _ _ u u weights (λ m b. refl)))
 
 -- a row that is fixed already adds nothing
 pub kept-adds :
-  (M : FieldModel) (L : FieldLaws M) (n : ℕ) (rec : List Pivoted) (g : Figured) → Fixes M n (record-rows rec) (g .row) → Adds M n rec g rec
+    (M : FieldModel) (L : FieldLaws M) (n : ℕ) (rec : List Pivoted) (g : Figured) → Fixes M n (record-rows rec) (g .row) → Adds M n rec g rec
 kept-adds M L n rec g fixes given codes G = form-kept M L n given rec G codes g fixes
 
 pub fixed-row :
-  (M : FieldModel) (L : FieldLaws M) (n : ℕ) (rec : List Pivoted) → Reduced M n rec → (g : Figured) → CodedRow M n g
-  → (left : Element) → Stands M n rec g (Standing.Fixed left) → Fixes M n (record-rows rec) (g .row)
+    (M : FieldModel) (L : FieldLaws M) (n : ℕ) (rec : List Pivoted) → Reduced M n rec → (g : Figured) → CodedRow M n g
+    → (left : Element) → Stands M n rec g (Standing.Fixed left) → Fixes M n (record-rows rec) (g .row)
 fixed-row M L n rec R g cg left (standings.fixed none f same) = nothing-fixes M L n rec R g cg none
 
 -- a row that may join, as the standing has it
@@ -54,15 +54,15 @@ pub record Fresh-facts (M : FieldModel) (n : ℕ) (rec : List Pivoted) (g : Figu
   pub none-pinned : (i : ℕ) → PinnedWith M n rec (g .row) i → ⊥
 
 pub fresh-facts :
-  (M : FieldModel) (n : ℕ) (rec : List Pivoted) (g : Figured) (x : RecordRow) → Stands M n rec g (Standing.Fresh x) → Fresh-facts M n rec g x
+    (M : FieldModel) (n : ℕ) (rec : List Pivoted) (g : Figured) (x : RecordRow) → Stands M n rec g (Standing.Fresh x) → Fresh-facts M n rec g x
 fresh-facts M n rec g x (standings.fresh y left same coded none) =
     record { left = left; same = same; coded = coded; none-pinned = none }
 
 module _
-  (M : FieldModel) (L : FieldLaws M) (n : ℕ) (rec : List Pivoted) (R : Reduced M n rec) (g : Figured) (cg : CodedRow M n g)
-  (x : RecordRow) (facts : Fresh-facts M n rec g x) (k : ℕ) (within : k ≤ length rec)
-  (below : (a : ℕ) → a < k → at rec a .pivot < x .pivot .0)
-  (above : (a : ℕ) → k ≤ a → a < length rec → x .pivot .0 ≤ at rec a .pivot) where
+    (M : FieldModel) (L : FieldLaws M) (n : ℕ) (rec : List Pivoted) (R : Reduced M n rec) (g : Figured) (cg : CodedRow M n g)
+    (x : RecordRow) (facts : Fresh-facts M n rec g x) (k : ℕ) (within : k ≤ length rec)
+    (below : (a : ℕ) → a < k → at rec a .pivot < x .pivot .0)
+    (above : (a : ℕ) → k ≤ a → a < length rec → x .pivot .0 ≤ at rec a .pivot) where
   abbrev p : ℕ
   p = x .pivot .0
 
@@ -75,9 +75,9 @@ module _
     within = within;
     before = below;
     after = λ a h b.
-      let ne = new-pivot M L n rec R g cg p (left .below) (left .named) (left .lowest) a b in
-      let low = above a h b in
-      omega arith;
+        let ne = new-pivot M L n rec R g cg p (left .below) (left .named) (left .lowest) a b in
+        let low = above a h b in
+        omega arith;
   }
 
   the-form : Form M L n rec R g cg p (left .below) (left .named) (left .lowest) the-place

@@ -8,3 +8,4 @@ pub mod Judging
 pub mod Standing
 pub mod Verdict
 pub mod Admitting
+pub mod Witnessing

@@ -30,8 +30,8 @@ row-codes M n ws (accepted len codes named) = codes
 
 module _ (M : FieldModel) (L : FieldLaws M) (n : ℕ) (rec : List Pivoted) (R : Reduced M n rec) (ws : List Element) (cr : Codes M n (weights-of ws)) where
   pub judged-fixed :
-    (left f : Element) → Stands M n rec (given-row ws 0) (Standing.Fixed left) → f .0 ≡ M .opposite (left .0)
-    → Judged M n rec (weights-of ws) (Judgement.Fixed f)
+      (left f : Element) → Stands M n rec (given-row ws 0) (Standing.Fixed left) → f .0 ≡ M .opposite (left .0)
+      → Judged M n rec (weights-of ws) (Judgement.Fixed f)
   judged-fixed left f (standings.fixed none v same) is =
       judged.fixed (nothing-fixes M L n rec R (given-row ws 0) (cr, zero-code M L) none) (f .0)
       (λ t ct fits. fixed-figure M L n rec R (weights-of ws) cr none t ct fits ∙ sym (is ∙ ap (M .opposite) same))

@@ -25,5 +25,6 @@ mod calls;
 mod eliminate;
 mod join;
 mod make;
+mod witness;
 
 pub use make::NoRecord;

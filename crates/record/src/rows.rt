@@ -20,3 +20,4 @@ mod checks;
 mod steps;
 
 pub use checks::check_row;
+pub use steps::minus;

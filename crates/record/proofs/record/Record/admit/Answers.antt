@@ -99,9 +99,9 @@ returns-in-Fresh g c =
     let R₁ = after-reduced M L (r .count) (rec-of r) R (given-row ws f) coded x facts _ (k .within) (k .below) (k .above) after same in
     record {
       admitted =
-        joined passed figure (judged-free M L (r .count) (rec-of r) R ws (coded .0) f figure x (c .in-Fresh .ensures tt))
-        (after-fits M L (r .count) (rec-of r) R (given-row ws f) coded x facts _ (k .within) (k .below) (k .above) after same)
-        (after-adds M L (r .count) (rec-of r) R (given-row ws f) coded x facts _ (k .within) (k .below) (k .above) after same);
+          joined passed figure (judged-free M L (r .count) (rec-of r) R ws (coded .0) f figure x (c .in-Fresh .ensures tt))
+          (after-fits M L (r .count) (rec-of r) R (given-row ws f) coded x facts _ (k .within) (k .below) (k .above) after same)
+          (after-adds M L (r .count) (rec-of r) R (given-row ws f) coded x facts _ (k .within) (k .below) (k .above) after same);
       sound = λ a h. (λ m b. R₁ .weights-codes a h m (omega arith), R₁ .figure-code a h);
       count = size;
     }
