@@ -1,10 +1,11 @@
 // The record: the reduced echelon form of the answered rows, what it fixes, what would pin a member, and the witness.
 mod judge;
 mod record;
+mod room;
 mod rows;
 
 pub use judge::Admission;
 pub use judge::Judgement;
-pub use record::NoRecord;
 pub use record::Record;
+pub use room::Room;
 pub use rows::check_row;

@@ -26,5 +26,3 @@ mod eliminate;
 mod join;
 mod make;
 mod witness;
-
-pub use make::NoRecord;

@@ -5,8 +5,8 @@ ghost use Prim.Native.Nat.{ℕ, min, max, _≤_, _<_};
 ghost use lib.ListN.{length, getD};
 ghost use denote.Ref.{now};
 ghost use Rattle.std.specs.Options.{Cases};
-ghost use Rattle.field.specs.Sums.{sum};
-ghost use Rattle.server.specs.Tables.{Table, value-at, codes, bounded, element-or-zero};
+ghost use Rattle.field.specs.Sums.{sum, weights-of};
+ghost use Rattle.server.specs.Tables.{Table, value-at, bounded, element-or-zero};
 use field::Element;
 use field::Field;
 use refusal::Member;
@@ -37,7 +37,7 @@ pub trait Server {
 
 // The weighted sum of a row over the server's table, asking it for the named members only.
 pub fn row_sum<S: Server>(server: &S, row: &[Element]) -> Element
-    ensures { λ r. ⌜ r .0 ≡ sum (Over·Field .model) (length (table (now (server .entry)))) (value-at (codes (now (row .entry)))) (value-at (table (now (server .entry)))) ⌝ }
+    ensures { λ r. ⌜ r .0 ≡ sum (Over·Field .model) (length (table (now (server .entry)))) (weights-of (now (row .entry))) (value-at (table (now (server .entry)))) ⌝ }
 {
     let members = server.count();
     let mut total = Element(0);

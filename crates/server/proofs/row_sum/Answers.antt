@@ -3,11 +3,11 @@ use mathlib.Core.List.{List}
 use Prim.Native.Nat.{ℕ, _+_, _-_, _≤_, _<_}
 use native.Mathlib.Omega.{arith}
 use lib.ListN.{length, getD}
-use Rattle.std.proofs.shelf.Lists.{getD-map, getD-past, length-map}
+use Rattle.std.proofs.shelf.Lists.{getD-past}
 use Rattle.field.specs.declared.Element.{Element}
-use Rattle.field.specs.Sums.{sum}
+use Rattle.field.specs.Sums.{sum, weights-of}
 use Rattle.field.proofs.Zero.{zero-code}
-use Rattle.server.specs.Tables.{value-at, codes}
+use Rattle.server.specs.Tables.{value-at}
 use Rattle.server.proofs.Sums.{sum-more, sum-unnamed, sum-past}
 use Rattle.server.proofs.row_sum.Needs as need
 use Rattle.server.proofs.row_sum.Needs.{then-weight-ne0·in-Some, then-weight-ne0·in-rest, else-weight-ne0}
@@ -24,12 +24,12 @@ loop-weight-again g c =
     let i = c .loop-weight .weight-index in
     let m = c .loop-weight .member in
     let inv = c .loop-weight .inv in
-    let w = value-at (codes row) in
+    let w = weights-of row in
     let t = value-at (g .S·Server .table (c .args .server .now)) in
     let table = c .count-members .ensures .lawful in
     let more : m + 1 ≤ c .count-members .result = omega arith in
     let below : m < length (g .S·Server .table (c .args .server .now)) = omega (arith, c .count-members .ensures .is) in
-    let weight : w m ≡ getD row i (record { 0 = 0 }) .0 = ap w (inv .0) ∙ getD-map (λ e. e .0) row i (record { 0 = 0 }) 0 (c .loop-weight-test .taken) in
+    let weight : w m ≡ getD row i (record { 0 = 0 }) .0 = ap w (inv .0) in
     let value : t m < M .size = table .elements m below in
     elim (c .if-weight-ne0 .came) [
       | then-weight-ne0·in-Some v ↦
@@ -51,7 +51,7 @@ loop-weight-again g c =
 pub returns-then-member-members : need.returns-then-member-members
 returns-then-member-members g c =
     let M = g .Over·Field .model in
-    let w = value-at (codes (c .args .row .now)) in
+    let w = weights-of (c .args .row .now) in
     let t = value-at (g .S·Server .table (c .args .server .now)) in
     c .loop-weight .inv .3 ∙ ap (λ n. sum M n w t) (c .if-member-members .taken ∙ c .count-members .ensures .is)
 
@@ -60,13 +60,13 @@ returns-after-loop-weight g c =
     let M = g .Over·Field .model in
     let L = g .Over·Field·met .laws in
     let row = c .args .row .now in
-    let w = value-at (codes row) in
+    let w = weights-of row in
     let t = value-at (g .S·Server .table (c .args .server .now)) in
     let n = length (g .S·Server .table (c .args .server .now)) in
     let m = c .loop-weight .member in
     let inv = c .loop-weight .inv in
     let within : sum M m w t < M .size = rw (← inv .3) (inv .2) in
     let rest : m + (n - m) ≡ n = omega (arith, c .count-members .ensures .is) in
-    let past : (k : ℕ) → m ≤ k → w k ≡ 0 = λ k h. getD-past (codes row) k 0 (simp length-map (omega arith)) in
+    let past : (k : ℕ) → m ≤ k → w k ≡ 0 = λ k h. ap (λ e. e .0) (getD-past row k (record { 0 = 0 }) (omega arith)) in
     let values = c .count-members .ensures .lawful .elements in
     inv .3 ∙ sym (sum-past M L w t m (n - m) within past (λ k h. values k (omega arith))) ∙ ap (λ k. sum M k w t) rest
