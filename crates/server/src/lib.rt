@@ -37,7 +37,8 @@ pub trait Server {
 
 // The weighted sum of a row over the server's table, asking it for the named members only.
 pub fn row_sum<S: Server>(server: &S, row: &[Element]) -> Element
-    ensures { λ r. ⌜ r .0 ≡ sum (Over·Field .model) (length (table (now (server .entry)))) (weights-of (now (row .entry))) (value-at (table (now (server .entry)))) ⌝ }
+    ensures is { λ r. ⌜ r .0 ≡ sum (Over·Field .model) (length (table (now (server .entry)))) (weights-of (now (row .entry))) (value-at (table (now (server .entry)))) ⌝ }
+    ensures within { λ r. ⌜ r .0 < Over·Field .model .size ⌝ }
 {
     let members = server.count();
     let mut total = Element(0);

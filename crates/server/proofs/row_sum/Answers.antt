@@ -53,7 +53,10 @@ returns-then-member-members g c =
     let M = g .Over·Field .model in
     let w = weights-of (c .args .row .now) in
     let t = value-at (g .S·Server .table (c .args .server .now)) in
-    c .loop-weight .inv .3 ∙ ap (λ n. sum M n w t) (c .if-member-members .taken ∙ c .count-members .ensures .is)
+    record {
+      is = c .loop-weight .inv .3 ∙ ap (λ n. sum M n w t) (c .if-member-members .taken ∙ c .count-members .ensures .is);
+      within = c .loop-weight .inv .2;
+    }
 
 pub returns-after-loop-weight : need.returns-after-loop-weight
 returns-after-loop-weight g c =
@@ -69,4 +72,7 @@ returns-after-loop-weight g c =
     let rest : m + (n - m) ≡ n = omega (arith, c .count-members .ensures .is) in
     let past : (k : ℕ) → m ≤ k → w k ≡ 0 = λ k h. ap (λ e. e .0) (getD-past row k (record { 0 = 0 }) (omega arith)) in
     let values = c .count-members .ensures .lawful .elements in
-    inv .3 ∙ sym (sum-past M L w t m (n - m) within past (λ k h. values k (omega arith))) ∙ ap (λ k. sum M k w t) rest
+    record {
+      is = inv .3 ∙ sym (sum-past M L w t m (n - m) within past (λ k h. values k (omega arith))) ∙ ap (λ k. sum M k w t) rest;
+      within = inv .2;
+    }

@@ -1,0 +1,221 @@
+-- One call more: the reply is due, and the session stands for the history with it. Assumes nothing.
+use mathlib.Core.Path.{_≡_, refl, sym, ap, ap₂, subst, _∙_}
+use mathlib.Core.Logic.{_≢_}
+use mathlib.Core.List.{List, [], _∷_, _++_}
+use Prim.Native.Nat.{ℕ, _+_, _≤_, _<_}
+use native.Mathlib.Nat.{add-zero}
+use native.Mathlib.Decide.{ℕ-discrete}
+use native.Mathlib.Omega.{arith}
+use lib.ListN.{length, take}
+use Rattle.std.specs.declared.option.Option.{Option}
+use Rattle.std.specs.declared.option.Option.the-variants.{Some, None}
+use Rattle.refusal.specs.declared.Refusal.{Refusal}
+use Rattle.refusal.specs.declared.Refusal.the-variants.{PermitOpen, PermitsSpent, Discloses, NotTheOpenPermit}
+use Rattle.refusal.specs.declared.Site.the-variants.{OfMember}
+use Rattle.field.specs.Model.{FieldModel, FieldLaws}
+use Rattle.field.specs.Sums.{Vector, Codes, sum, weights-of}
+use Rattle.field.specs.declared.Element.{Element}
+use Rattle.server.specs.Checks.{Lowest}
+use Rattle.server.specs.Tables.{value-at}
+use Rattle.echelon.specs.Rows.{Figured, rows-of, RowsCodes, Pins, Fixes}
+use Rattle.echelon.specs.Reduced.{Pivoted, at, all-figured, Alone, Reduced, ReducedForm}
+use Rattle.echelon.proofs.Forms.{form-agrees}
+use Rattle.echelon.proofs.Tables.{pinned-alone}
+use Rattle.record.specs.Checks.{RowCheck}
+use Rattle.record.specs.Shapes.{NoneAlone}
+use Rattle.record.specs.Judged.{record-rows, PinnedWith, given-row, Adds}
+use Rattle.record.specs.Records.{rec-of}
+use Rattle.record.proofs.Verdict.{row-codes}
+use Rattle.history.specs.Events as events
+use Rattle.history.specs.Events.{Start, Event, Call, Reply, submits, answers, withdraws, witnesses, permits, gives, takes-back, fills, refuses, refused, issued, open-row, open-after, given}
+use Rattle.history.specs.Law as law
+use Rattle.history.specs.Law.{PinnedBy, Ready, Due, Lawful, goes-on}
+use Rattle.session.specs.Views.{SameOpen, Holds, Steps}
+use Rattle.session.specs.declared.session.OpenRow.{OpenRow}
+use Rattle.session.specs.declared.session.Session.{Session}
+
+-- a refusal opens and closes nothing
+still-open : (c : Call) (k d : ℕ) (o : Option events.OpenRow) → open-after c (refuses k d) o ≡ o
+still-open (submits ws) k d o = refl
+still-open (answers j) k d o = refl
+still-open (withdraws j) k d o = refl
+still-open (witnesses i a l) k d o = refl
+
+pub open-none : (n : ℕ) (o : Option events.OpenRow) → SameOpen n None o → o ≡ None
+open-none n None same = refl
+open-none n (Some o) same = absurd same
+
+pub open-some :
+    (n : ℕ) (p : OpenRow) (o : Option events.OpenRow) → SameOpen n (Some p) o
+    → (q : events.OpenRow) × (o ≡ Some q) × (p .permit ≡ q .permit) × (take n (p .weights) ≡ q .weights)
+open-some n p None same = absurd same
+open-some n p (Some q) same = (q, refl, same .0, same .1)
+
+-- what is pinned with the rows given is pinned with the record's rows, and the other way round
+module _
+    (M : FieldModel) (L : FieldLaws M) (n : ℕ) (rows : List Figured) (rec : List Pivoted) (G : ReducedForm M n rows rec)
+    (codes : RowsCodes M n (rows-of rows)) (ws : List Element) where
+  pub pinned-by-record : (i : ℕ) → PinnedBy M n rows ws i → PinnedWith M n rec (weights-of ws) i
+  pinned-by-record i (h, pins) = (h, λ t u ct cu agree. pins t u ct cu (agree .0, form-agrees M L n rows rec G codes t u ct cu .1 (agree .1)))
+
+  pub pinned-by-given : (i : ℕ) → PinnedWith M n rec (weights-of ws) i → PinnedBy M n rows ws i
+  pinned-by-given i (h, pins) = (h, λ t u ct cu agree. pins t u ct cu (agree .0, form-agrees M L n rows rec G codes t u ct cu .0 (agree .1)))
+
+  pub lowest-by-given : (i : ℕ) → Lowest (PinnedWith M n rec (weights-of ws)) i → Lowest (PinnedBy M n rows ws) i
+  lowest-by-given i low = record { holds = pinned-by-given i (low .holds); none-below = λ k h p. low .none-below k h (pinned-by-record k p) }
+
+-- a row that is fixed already pins nobody
+pub fixed-pins-nobody :
+    (M : FieldModel) (L : FieldLaws M) (n : ℕ) (rec : List Pivoted) → Reduced M n rec → NoneAlone n rec → (r : Vector)
+    → Fixes M n (record-rows rec) r → (i : ℕ) → PinnedWith M n rec r i → ⊥
+fixed-pins-nobody M L n rec R none r fixes i (h, pins) =
+    let found = pinned-alone M L n rec R i h .0 (λ t u ct cu agree. pins t u ct cu (fixes t u ct cu agree, agree)) in
+    let a = found .0 in
+    let b = found .1 in
+    let alone = found .2 in
+    elim (ℕ-discrete (at rec a .pivot) i) [
+      | yes same ↦ none a b (subst (Alone n (at rec a .weights)) (sym same) alone)
+      | no ne ↦ let one : _≡_ {A = ℕ} 1 0 = sym (R .own-pivot a b) ∙ alone .1 _ (R .pivot-below a b) ne in omega arith
+    ]
+
+module _ {S V : Type 0} (M : FieldModel) (L : FieldLaws M) (T : List ℕ) where
+  -- a refusal changes nothing
+  pub refused-step :
+      (x : Session S V) (s : Start) (h : List Event) (c : Call) (e : Refusal) → Holds M T x s h → Due M (length T) (value-at T) s h c (refused e)
+      → Due M (length T) (value-at T) s h c (refused e) × Holds M T x s (record { call = c; reply = refused e } ∷ h)
+  refused-step x s h c e H due = (
+    due,
+    record {
+      sane = H .sane;
+      lawful = goes-on h (record { call = c; reply = refused e }) (H .lawful) due;
+      codes = H .codes;
+      form = H .form;
+      issued-is = H .issued-is ∙ sym (add-zero (issued s h));
+      open-is = subst (SameOpen (length T) (x .pending)) (sym (still-open c _ _ (open-row h))) (H .open-is);
+    },
+  )
+
+  pub granted-step :
+      (x x′ : Session S V) (s : Start) (h : List Event) (ws : List Element) (p : OpenRow) → Holds M T x s h
+      → open-row h ≡ None → x .issued < 65535 → RowCheck M (length T) ws None
+      → ((i : ℕ) → PinnedWith M (length T) (rec-of (x .record)) (weights-of ws) i → ⊥)
+      → x′ .record ≡ x .record → x′ .issued ≡ x .issued + 1 → x′ .pending ≡ Some p → p .permit ≡ x .issued + 1 → take (length T) (p .weights) ≡ ws
+      → Due M (length T) (value-at T) s h (submits ws) (permits (x .issued + 1)) × Holds M T x′ s (record { call = submits ws; reply = permits (x .issued + 1) } ∷ h)
+  granted-step x x′ s h ws p H none few passed free rec-same count pending permit weights =
+      let ready : Ready s h = record { none-open = none; left = subst (λ (k : ℕ). k < 65535) (H .issued-is) few } in
+      let not-pinned : (i : ℕ) → PinnedBy M (length T) (given s h) ws i → ⊥ =
+      λ i pinned. free i (pinned-by-record M L (length T) (given s h) (rec-of (x .record)) (H .form) (H .codes) ws i pinned) in
+      let due : Due M (length T) (value-at T) s h (submits ws) (permits (x .issued + 1)) =
+      subst (λ (k : ℕ). Due M (length T) (value-at T) s h (submits ws) (permits (k + 1))) (sym (H .issued-is)) (law.granted ws ready passed not-pinned) in (
+        due,
+        record {
+          sane = H .sane;
+          lawful = goes-on h (record { call = submits ws; reply = permits (x .issued + 1) }) (H .lawful) due;
+          codes = H .codes;
+          form = subst (λ (r : _). ReducedForm M (length T) (given s h) (rec-of r)) (sym rec-same) (H .form);
+          issued-is = count ∙ ap (λ k. k + 1) (H .issued-is);
+          open-is = subst (λ (o : Option OpenRow). SameOpen (length T) o (Some (record { permit = x .issued + 1; weights = ws }))) (sym pending) (permit, weights);
+        },
+      )
+
+  pub answered-step :
+      (x x′ : Session S V) (s : Start) (h : List Event) (p : OpenRow) (f : ℕ) → Holds M T x s h → x .pending ≡ Some p
+      → RowCheck M (length T) (take (length T) (p .weights)) None → f ≡ sum M (length T) (weights-of (take (length T) (p .weights))) (value-at T)
+      → Adds M (length T) (rec-of (x .record)) (given-row (take (length T) (p .weights)) f) (rec-of (x′ .record))
+      → x′ .issued ≡ x .issued → x′ .pending ≡ None
+      → Due M (length T) (value-at T) s h (answers (p .permit)) (gives f)
+      × Holds M T x′ s (record { call = answers (p .permit); reply = gives f } ∷ h)
+  answered-step x x′ s h p f H pending passed figure adds count none =
+      let ws = take (length T) (p .weights) in
+      let (q, is-open, permit, weights) = open-some (length T) p (open-row h) (subst (λ (o : Option OpenRow). SameOpen (length T) o (open-row h)) pending (H .open-is)) in
+      let due : Due M (length T) (value-at T) s h (answers (p .permit)) (gives f) =
+      subst (λ (v : ℕ). Due M (length T) (value-at T) s h (answers (p .permit)) (gives v))
+      (ap (λ l. sum M (length T) (weights-of l) (value-at T)) (sym weights) ∙ sym figure)
+      (law.answered-with (p .permit) q is-open (sym permit)) in
+      let with-row : events.with-figure f (open-row h) ≡ given-row ws f ∷ [] =
+      ap (events.with-figure f) is-open ∙ ap (λ l. given-row l f ∷ []) (sym weights) in
+      let all : given s (record { call = answers (p .permit); reply = gives f } ∷ h) ≡ given-row ws f ∷ given s h =
+      ap (λ l. (l ++ events.answered h) ++ s .rows) with-row in (
+        due,
+        record {
+          sane = H .sane;
+          lawful = goes-on h (record { call = answers (p .permit); reply = gives f }) (H .lawful) due;
+          codes = subst (λ (l : List Figured). RowsCodes M (length T) (rows-of l)) (sym all) (row-codes M (length T) ws passed, H .codes);
+          form = subst (λ (l : List Figured). ReducedForm M (length T) l (rec-of (x′ .record))) (sym all) (adds (given s h) (H .codes) (H .form));
+          issued-is = count ∙ H .issued-is ∙ sym (add-zero (issued s h));
+          open-is = subst (λ (o : Option OpenRow). SameOpen (length T) o None) (sym none) tt;
+        },
+      )
+
+  pub withdrawn-step :
+      (x x′ : Session S V) (s : Start) (h : List Event) (p : OpenRow) → Holds M T x s h → x .pending ≡ Some p
+      → x′ .record ≡ x .record → x′ .issued ≡ x .issued → x′ .pending ≡ None
+      → Due M (length T) (value-at T) s h (withdraws (p .permit)) takes-back
+      × Holds M T x′ s (record { call = withdraws (p .permit); reply = takes-back } ∷ h)
+  withdrawn-step x x′ s h p H pending rec-same count none =
+      let (q, is-open, permit, weights) = open-some (length T) p (open-row h) (subst (λ (o : Option OpenRow). SameOpen (length T) o (open-row h)) pending (H .open-is)) in
+      let due : Due M (length T) (value-at T) s h (withdraws (p .permit)) takes-back = law.withdrawn (p .permit) q is-open (sym permit) in (
+        due,
+        record {
+          sane = H .sane;
+          lawful = goes-on h (record { call = withdraws (p .permit); reply = takes-back }) (H .lawful) due;
+          codes = H .codes;
+          form = subst (λ (r : _). ReducedForm M (length T) (given s h) (rec-of r)) (sym rec-same) (H .form);
+          issued-is = count ∙ H .issued-is ∙ sym (add-zero (issued s h));
+          open-is = subst (λ (o : Option OpenRow). SameOpen (length T) o None) (sym none) tt;
+        },
+      )
+
+  -- a number that is not the open permit's, or none is open
+  pub not-open :
+      (x : Session S V) (s : Start) (h : List Event) (k : ℕ) → Holds M T x s h → ((p : OpenRow) → x .pending ≡ Some p → p .permit ≢ k)
+      → (o : events.OpenRow) → open-row h ≡ Some o → o .permit ≢ k
+  not-open x s h k H other o is-open same = go (x .pending) refl (subst (SameOpen (length T) (x .pending)) is-open (H .open-is))
+    where
+      go : (q : Option OpenRow) → x .pending ≡ q → SameOpen (length T) q (Some o) → ⊥
+      go None pending open-is = open-is
+      go (Some p) pending open-is = other p pending (open-is .0 ∙ same)
+
+-- the open row has another number
+pub other-permit :
+    {S V : Type 0} (x : Session S V) (p : OpenRow) (k : ℕ) → x .pending ≡ Some p → p .permit ≢ k
+    → (q : OpenRow) → x .pending ≡ Some q → q .permit ≢ k
+other-permit x p k is ne q also same = ne (ap permit-of (sym is ∙ also) ∙ same)
+  where
+    permit-of : Option OpenRow → ℕ
+    permit-of None = k
+    permit-of (Some r) = r .permit
+
+-- the same for every history
+module _ {S V : Type 0} (M : FieldModel) (L : FieldLaws M) (T : List ℕ) (x : Session S V) where
+  pub refused-steps :
+      (c : Call) (e : Refusal) → ((s : Start) (h : List Event) → Holds M T x s h → Due M (length T) (value-at T) s h c (refused e))
+      → Steps M T x c (refused e) x
+  refused-steps c e due s h H = refused-step M L T x s h c e H (due s h H)
+
+  pub answer-refused-steps :
+      (k : ℕ) → ((p : OpenRow) → x .pending ≡ Some p → p .permit ≢ k) → Steps M T x (answers k) (refused NotTheOpenPermit) x
+  answer-refused-steps k other =
+      refused-steps (answers k) NotTheOpenPermit (λ s h H. law.answer-refused k (not-open M L T x s h k H other))
+
+  pub withdrawal-refused-steps :
+      (k : ℕ) → ((p : OpenRow) → x .pending ≡ Some p → p .permit ≢ k) → Steps M T x (withdraws k) (refused NotTheOpenPermit) x
+  withdrawal-refused-steps k other =
+      refused-steps (withdraws k) NotTheOpenPermit (λ s h H. law.withdrawal-refused k (not-open M L T x s h k H other))
+
+  module _ (x′ : Session S V) (p : OpenRow) where
+    pub answered-steps :
+        (k f : ℕ) → p .permit ≡ k → x .pending ≡ Some p
+        → RowCheck M (length T) (take (length T) (p .weights)) None → f ≡ sum M (length T) (weights-of (take (length T) (p .weights))) (value-at T)
+        → Adds M (length T) (rec-of (x .record)) (given-row (take (length T) (p .weights)) f) (rec-of (x′ .record))
+        → x′ .issued ≡ x .issued → x′ .pending ≡ None → Steps M T x (answers k) (gives f) x′
+    answered-steps k f same pending passed figure adds count none =
+        subst (λ (j : ℕ). Steps M T x (answers j) (gives f) x′) same
+        (λ s h H. answered-step M L T x x′ s h p f H pending passed figure adds count none)
+
+    pub withdrawn-steps :
+        (k : ℕ) → p .permit ≡ k → x .pending ≡ Some p → x′ .record ≡ x .record → x′ .issued ≡ x .issued → x′ .pending ≡ None
+        → Steps M T x (withdraws k) takes-back x′
+    withdrawn-steps k same pending rec-same count none =
+        subst (λ (j : ℕ). Steps M T x (withdraws j) takes-back x′) same
+        (λ s h H. withdrawn-step M L T x x′ s h p H pending rec-same count none)
