@@ -6,7 +6,10 @@ use Prim.Native.Nat.{ℕ, _+_, _≤_, _<_}
 use native.Mathlib.Nat.{add-zero}
 use native.Mathlib.Decide.{ℕ-discrete}
 use native.Mathlib.Omega.{arith}
+use borrow.Author.Tests.{clash}
 use lib.ListN.{length, take}
+use mathlib.Core.Bool.{true, false}
+use Rattle.std.specs.Options.{isSome}
 use Rattle.std.specs.declared.option.Option.{Option}
 use Rattle.std.specs.declared.option.Option.the-variants.{Some, None}
 use Rattle.refusal.specs.declared.Refusal.{Refusal}
@@ -23,7 +26,11 @@ use Rattle.echelon.proofs.Forms.{form-agrees}
 use Rattle.echelon.proofs.Tables.{pinned-alone}
 use Rattle.record.specs.Checks.{RowCheck}
 use Rattle.record.specs.Shapes.{NoneAlone}
-use Rattle.record.specs.Judged.{record-rows, PinnedWith, given-row, Adds}
+use Rattle.record.specs.Judged as judged
+use Rattle.record.specs.Judged.{Judged, record-rows, PinnedWith, given-row, Adds}
+use Rattle.record.specs.declared.judge.Judgement.{Judgement}
+use Rattle.record.specs.declared.judge.Judgement.the-variants.{Pinning}
+use Rattle.refusal.specs.declared.Member.{Member}
 use Rattle.record.specs.Records.{rec-of}
 use Rattle.record.proofs.Verdict.{row-codes}
 use Rattle.history.specs.Events as events
@@ -219,3 +226,54 @@ module _ {S V : Type 0} (M : FieldModel) (L : FieldLaws M) (T : List ℕ) (x : S
     withdrawn-steps k same pending rec-same count none =
         subst (λ (j : ℕ). Steps M T x (withdraws j) takes-back x′) same
         (λ s h H. withdrawn-step M L T x x′ s h p H pending rec-same count none)
+
+-- submits
+module _ {S V : Type 0} (M : FieldModel) (L : FieldLaws M) (T : List ℕ) (x : Session S V) (ws : List Element) where
+  pub submit-open-steps : isSome (x .pending) ≡ true → Steps M T x (submits ws) (refused PermitOpen) x
+  submit-open-steps some =
+      refused-steps M L T x (submits ws) PermitOpen (λ s h H. law.permit-open ws (λ none. go (x .pending) some (subst (SameOpen (length T) (x .pending)) none (H .open-is))))
+    where
+      go : (o : Option OpenRow) → isSome o ≡ true → SameOpen (length T) o None → ⊥
+      go None some same = clash some
+      go (Some p) some same = same
+
+  none-open : isSome (x .pending) ≡ false → (s : Start) (h : List Event) → Holds M T x s h → open-row h ≡ None
+  none-open none s h H = go (x .pending) none (H .open-is)
+    where
+      go : (o : Option OpenRow) → isSome o ≡ false → SameOpen (length T) o (open-row h) → open-row h ≡ None
+      go None e same = open-none (length T) (open-row h) same
+      go (Some p) e same = absurd (clash (sym e))
+
+  pub submit-spent-steps : isSome (x .pending) ≡ false → x .issued ≡ 65535 → Steps M T x (submits ws) (refused PermitsSpent) x
+  submit-spent-steps none spent =
+      refused-steps M L T x (submits ws) PermitsSpent (λ s h H. law.permits-spent ws (none-open none s h H) (sym (H .issued-is) ∙ spent))
+
+  module _ (none : isSome (x .pending) ≡ false) (left : x .issued < 65535) where
+    ready : (s : Start) (h : List Event) → Holds M T x s h → Ready s h
+    ready s h H = record { none-open = none-open none s h H; left = subst (λ (k : ℕ). k < 65535) (H .issued-is) left }
+
+    pub submit-bad-steps : (e : Refusal) → RowCheck M (length T) ws (Some e) → Steps M T x (submits ws) (refused e) x
+    submit-bad-steps e fails = refused-steps M L T x (submits ws) e (λ s h H. law.bad-row ws e (ready s h H) fails)
+
+    pub submit-disclosing-steps :
+      (i : ℕ) → RowCheck M (length T) ws None → Lowest (PinnedWith M (length T) (rec-of (x .record)) (weights-of ws)) i
+      → Steps M T x (submits ws) (refused (Discloses (OfMember (record { 0 = i })))) x
+    submit-disclosing-steps i passed low =
+        refused-steps M L T x (submits ws) (Discloses (OfMember (record { 0 = i })))
+        (λ s h H. law.discloses ws i (ready s h H) passed (lowest-by-given M L (length T) (given s h) (rec-of (x .record)) (H .form) (H .codes) ws i low))
+
+    pub granted-steps :
+      (x′ : Session S V) (p : OpenRow) → RowCheck M (length T) ws None
+      → ((i : ℕ) → PinnedWith M (length T) (rec-of (x .record)) (weights-of ws) i → ⊥)
+      → x′ .record ≡ x .record → x′ .issued ≡ x .issued + 1 → x′ .pending ≡ Some p → p .permit ≡ x .issued + 1 → take (length T) (p .weights) ≡ ws
+      → Steps M T x (submits ws) (permits (x .issued + 1)) x′
+    granted-steps x′ p passed free rec-same count pending permit weights s h H =
+        granted-step M L T x x′ s h ws p H (none-open none s h H) left passed free rec-same count pending permit weights
+
+-- a row that is judged to pin nobody
+pub judged-free-of :
+  (M : FieldModel) (L : FieldLaws M) (n : ℕ) (rec : List Pivoted) → Reduced M n rec → NoneAlone n rec → (r : Vector) (j : Judgement)
+  → Judged M n rec r j → ((i : Member) → j ≡ Pinning i → ⊥) → (i : ℕ) → PinnedWith M n rec r i → ⊥
+judged-free-of M L n rec R none r j (judged.fixed fixes f figure) other = fixed-pins-nobody M L n rec R none r fixes
+judged-free-of M L n rec R none r j (judged.pins not i low) other = absurd (other (record { 0 = i }) refl)
+judged-free-of M L n rec R none r j (judged.free not free) other = free
