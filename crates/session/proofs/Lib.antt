@@ -1,2 +1,4 @@
 pub mod Steps
 pub mod Admitted
+pub mod Begins
+pub mod Witnessed

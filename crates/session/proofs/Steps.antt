@@ -7,7 +7,7 @@ use native.Mathlib.Nat.{add-zero}
 use native.Mathlib.Decide.{ℕ-discrete}
 use native.Mathlib.Omega.{arith}
 use borrow.Author.Tests.{clash}
-use lib.ListN.{length, take}
+use lib.ListN.{length, take, length-map, List·getD-map}
 use mathlib.Core.Bool.{true, false}
 use Rattle.std.specs.Options.{isSome}
 use Rattle.std.specs.declared.option.Option.{Option}
@@ -19,12 +19,13 @@ use Rattle.field.specs.Model.{FieldModel, FieldLaws}
 use Rattle.field.specs.Sums.{Vector, Codes, sum, weights-of}
 use Rattle.field.specs.declared.Element.{Element}
 use Rattle.server.specs.Checks.{Lowest}
-use Rattle.server.specs.Tables.{value-at}
+use Rattle.server.specs.Tables.{value-at, codes}
 use Rattle.echelon.specs.Rows.{Figured, rows-of, RowsCodes, Pins, Fixes}
 use Rattle.echelon.specs.Reduced.{Pivoted, at, all-figured, Alone, Reduced, ReducedForm}
+use Rattle.echelon.specs.Witness.{Witness}
 use Rattle.echelon.proofs.Forms.{form-agrees}
 use Rattle.echelon.proofs.Tables.{pinned-alone}
-use Rattle.record.specs.Checks.{RowCheck}
+use Rattle.record.specs.Checks.{RowCheck, WitnessCheck}
 use Rattle.record.specs.Shapes.{NoneAlone}
 use Rattle.record.specs.Judged as judged
 use Rattle.record.specs.Judged.{Judged, record-rows, PinnedWith, given-row, Adds}
@@ -256,24 +257,49 @@ module _ {S V : Type 0} (M : FieldModel) (L : FieldLaws M) (T : List ℕ) (x : S
     submit-bad-steps e fails = refused-steps M L T x (submits ws) e (λ s h H. law.bad-row ws e (ready s h H) fails)
 
     pub submit-disclosing-steps :
-      (i : ℕ) → RowCheck M (length T) ws None → Lowest (PinnedWith M (length T) (rec-of (x .record)) (weights-of ws)) i
-      → Steps M T x (submits ws) (refused (Discloses (OfMember (record { 0 = i })))) x
+        (i : ℕ) → RowCheck M (length T) ws None → Lowest (PinnedWith M (length T) (rec-of (x .record)) (weights-of ws)) i
+        → Steps M T x (submits ws) (refused (Discloses (OfMember (record { 0 = i })))) x
     submit-disclosing-steps i passed low =
         refused-steps M L T x (submits ws) (Discloses (OfMember (record { 0 = i })))
         (λ s h H. law.discloses ws i (ready s h H) passed (lowest-by-given M L (length T) (given s h) (rec-of (x .record)) (H .form) (H .codes) ws i low))
 
     pub granted-steps :
-      (x′ : Session S V) (p : OpenRow) → RowCheck M (length T) ws None
-      → ((i : ℕ) → PinnedWith M (length T) (rec-of (x .record)) (weights-of ws) i → ⊥)
-      → x′ .record ≡ x .record → x′ .issued ≡ x .issued + 1 → x′ .pending ≡ Some p → p .permit ≡ x .issued + 1 → take (length T) (p .weights) ≡ ws
-      → Steps M T x (submits ws) (permits (x .issued + 1)) x′
+        (x′ : Session S V) (p : OpenRow) → RowCheck M (length T) ws None
+        → ((i : ℕ) → PinnedWith M (length T) (rec-of (x .record)) (weights-of ws) i → ⊥)
+        → x′ .record ≡ x .record → x′ .issued ≡ x .issued + 1 → x′ .pending ≡ Some p → p .permit ≡ x .issued + 1 → take (length T) (p .weights) ≡ ws
+        → Steps M T x (submits ws) (permits (x .issued + 1)) x′
     granted-steps x′ p passed free rec-same count pending permit weights s h H =
         granted-step M L T x x′ s h ws p H (none-open none s h H) left passed free rec-same count pending permit weights
 
 -- a row that is judged to pin nobody
 pub judged-free-of :
-  (M : FieldModel) (L : FieldLaws M) (n : ℕ) (rec : List Pivoted) → Reduced M n rec → NoneAlone n rec → (r : Vector) (j : Judgement)
-  → Judged M n rec r j → ((i : Member) → j ≡ Pinning i → ⊥) → (i : ℕ) → PinnedWith M n rec r i → ⊥
+    (M : FieldModel) (L : FieldLaws M) (n : ℕ) (rec : List Pivoted) → Reduced M n rec → NoneAlone n rec → (r : Vector) (j : Judgement)
+    → Judged M n rec r j → ((i : Member) → j ≡ Pinning i → ⊥) → (i : ℕ) → PinnedWith M n rec r i → ⊥
 judged-free-of M L n rec R none r j (judged.fixed fixes f figure) other = fixed-pins-nobody M L n rec R none r fixes
 judged-free-of M L n rec R none r j (judged.pins not i low) other = absurd (other (record { 0 = i }) refl)
 judged-free-of M L n rec R none r j (judged.free not free) other = free
+
+-- witnesses
+module _ {S V : Type 0} (M : FieldModel) (L : FieldLaws M) (T : List ℕ) (x : Session S V) (i a l : ℕ) where
+  pub witness-refused-steps : (e : Refusal) → WitnessCheck M (length T) i a l (Some e) → Steps M T x (witnesses i a l) (refused e) x
+  witness-refused-steps e fails = refused-steps M L T x (witnesses i a l) e (λ s h H. law.witness-refused i a l e fails)
+
+  pub witness-filled-steps :
+      (ws : List Element) → WitnessCheck M (length T) i a l None → length ws ≡ length T
+      → Witness M (length T) (rec-of (x .record)) i a (weights-of ws) → Steps M T x (witnesses i a l) (fills (codes ws)) x
+  witness-filled-steps ws passed size made s h H =
+      let read : (m : ℕ) → value-at (codes ws) m ≡ weights-of ws m = λ m. List·getD-map (λ e. e .0) ws m (record { 0 = 0 }) in
+      let filled : Witness M (length T) (rec-of (x .record)) i a (value-at (codes ws)) =
+      record { member = made .member; factor = made .factor; leads = made .leads; table = λ m b. read m ∙ made .table m b } in
+      let due : Due M (length T) (value-at T) s h (witnesses i a l) (fills (codes ws)) =
+      law.witness-filled i a l (rec-of (x .record)) (codes ws) passed (H .form) (length-map ws (λ e. e .0) ∙ size) filled in (
+        due,
+        record {
+          sane = H .sane;
+          lawful = goes-on h (record { call = witnesses i a l; reply = fills (codes ws) }) (H .lawful) due;
+          codes = H .codes;
+          form = H .form;
+          issued-is = H .issued-is ∙ sym (add-zero (issued s h));
+          open-is = H .open-is;
+        },
+      )

@@ -28,6 +28,7 @@ use Rattle.history.specs.Law.{Due, Lawful}
 use Rattle.history.specs.Theorems.{Sane}
 use Rattle.refusal.specs.declared.Refusal.{Refusal}
 use Rattle.field.specs.declared.Element.{Element}
+use Rattle.session.specs.declared.permit.Permit.{Permit}
 use Rattle.session.specs.declared.session.OpenRow.{OpenRow}
 use Rattle.session.specs.declared.session.Session.{Session}
 
@@ -64,6 +65,10 @@ Steps M T x c r x′ =
 abbrev pub permit-reply : Result ℕ Refusal → Reply
 permit-reply (Ok k) = permits k
 permit-reply (Err e) = refused e
+
+abbrev pub submit-reply : Result Permit Refusal → Reply
+submit-reply (Ok p) = permits (p .number)
+submit-reply (Err e) = refused e
 
 abbrev pub figure-reply : Result Element Refusal → Reply
 figure-reply (Ok v) = gives (v .0)

@@ -20,3 +20,4 @@ pub struct Session<S: Server> {
 
 mod begin;
 mod calls;
+mod permitted;

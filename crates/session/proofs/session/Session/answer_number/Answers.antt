@@ -28,8 +28,8 @@ returns-in-rest g c =
       server = refl;
       kept = refl;
       law =
-        answer-refused-steps (g .Over·Field .model) (g .Over·Field·met .laws) (g .S·Server .table (x .server)) x (c .args .number)
-        (λ p e. absurd (c .in-rest .not-Some p e));
+          answer-refused-steps (g .Over·Field .model) (g .Over·Field·met .laws) (g .S·Server .table (x .server)) x (c .args .number)
+          (λ p e. absurd (c .in-rest .not-Some p e));
     }
 
 pub returns-then-row-number : need.returns-then-row-number
@@ -40,8 +40,8 @@ returns-then-row-number g c =
       server = refl;
       kept = refl;
       law =
-        answer-refused-steps (g .Over·Field .model) (g .Over·Field·met .laws) (g .S·Server .table (x .server)) x (c .args .number)
-        (other-permit x (c .in-Some .row) (c .args .number) (c .in-Some .is) (c .if-row-number .taken));
+          answer-refused-steps (g .Over·Field .model) (g .Over·Field·met .laws) (g .S·Server .table (x .server)) x (c .args .number)
+          (other-permit x (c .in-Some .row) (c .args .number) (c .in-Some .is) (c .if-row-number .taken));
     }
 
 -- the open row was granted, over as many members as the table has
@@ -56,19 +56,19 @@ cut g c =
     ap (λ k. take k (c .in-Some .row .weights)) size
 
 went-in :
-  (g : _) (c : After-admit g)
-  → (isOk (c .admit .result) ≡ true)
+    (g : _) (c : After-admit g)
+    → (isOk (c .admit .result) ≡ true)
     × Adds (g .Over·Field .model) (length (g .S·Server .table (c .args .self .now .server))) (rec-of (c .args .self .now .record))
-      (given-row (take (length (g .S·Server .table (c .args .self .now .server))) (c .in-Some .row .weights)) (c .row-sum-figure .result .0)) (rec-of (c .admit .last .self))
+    (given-row (take (length (g .S·Server .table (c .args .self .now .server))) (c .in-Some .row .weights)) (c .row-sum-figure .result .0)) (rec-of (c .admit .last .self))
 went-in g c =
     let M = g .Over·Field .model in
     let x = c .args .self .now in
     let T = g .S·Server .table (x .server) in
     let row = granted g c in
     let admitted =
-      subst (λ (n : ℕ). Admitted M n (rec-of (x .record)) (take (length T) (c .in-Some .row .weights)) (c .row-sum-figure .result .0) (rec-of (c .admit .last .self)) (c .admit .result)) (c .pre .sound .count)
-      (subst (λ (ws : List Element). Admitted M (x .record .count) (rec-of (x .record)) ws (c .row-sum-figure .result .0) (rec-of (c .admit .last .self)) (c .admit .result)) (cut g c)
-        (c .admit .ensures .admitted)) in
+    subst (λ (n : ℕ). Admitted M n (rec-of (x .record)) (take (length T) (c .in-Some .row .weights)) (c .row-sum-figure .result .0) (rec-of (c .admit .last .self)) (c .admit .result)) (c .pre .sound .count)
+    (subst (λ (ws : List Element). Admitted M (x .record .count) (rec-of (x .record)) ws (c .row-sum-figure .result .0) (rec-of (c .admit .last .self)) (c .admit .result)) (cut g c)
+    (c .admit .ensures .admitted)) in
     admit-succeeds M (length T) (rec-of (x .record)) (take (length T) (c .in-Some .row .weights)) (c .row-sum-figure .result .0) (rec-of (c .admit .last .self)) (c .admit .result)
     admitted (row .0) (c .row-sum-figure .ensures .within) (row .1)
 
@@ -84,12 +84,12 @@ returns g c =
     let T = g .S·Server .table (x .server) in
     let here = need.at·returns g c .After-admit in
     let figure : c .row-sum-figure .result .0 ≡ sum M (length T) (weights-of (take (length T) (c .in-Some .row .weights))) (value-at T) =
-      c .row-sum-figure .ensures .is ∙ ap (λ l. sum M (length T) (weights-of l) (value-at T)) (cut g here) in
+    c .row-sum-figure .ensures .is ∙ ap (λ l. sum M (length T) (weights-of l) (value-at T)) (cut g here) in
     record {
       sound = record { count = c .admit .ensures .count ∙ c .pre .sound .count; record-sound = c .admit .ensures .sound; granted = tt };
       server = refl;
       kept = refl;
       law =
-        answered-steps M (g .Over·Field·met .laws) T x (record { server = x .server; «record» = c .admit .last .self; issued = x .issued; pending = None }) (c .in-Some .row)
-        (c .args .number) (c .row-sum-figure .result .0) (c .if-row-number .left) (c .in-Some .is) (granted g here .0) figure (went-in g here .1) refl refl;
+          answered-steps M (g .Over·Field·met .laws) T x (record { server = x .server; «record» = c .admit .last .self; issued = x .issued; pending = None }) (c .in-Some .row)
+          (c .args .number) (c .row-sum-figure .result .0) (c .if-row-number .left) (c .in-Some .is) (granted g here .0) figure (went-in g here .1) refl refl;
     }

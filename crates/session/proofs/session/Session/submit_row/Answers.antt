@@ -27,8 +27,8 @@ returns-then-is-some g c =
       server = refl;
       kept = refl;
       law =
-        submit-open-steps (g .Over·Field .model) (g .Over·Field·met .laws) (g .S·Server .table (x .server)) x (c .args .weights .now)
-        (sym (c .is-some .ensures) ∙ c .if-is-some .taken);
+          submit-open-steps (g .Over·Field .model) (g .Over·Field·met .laws) (g .S·Server .table (x .server)) x (c .args .weights .now)
+          (sym (c .is-some .ensures) ∙ c .if-is-some .taken);
     }
 
 pub returns-then-self : need.returns-then-self
@@ -39,8 +39,8 @@ returns-then-self g c =
       server = refl;
       kept = refl;
       law =
-        submit-spent-steps (g .Over·Field .model) (g .Over·Field·met .laws) (g .S·Server .table (x .server)) x (c .args .weights .now)
-        (sym (c .is-some .ensures) ∙ c .if-is-some .left) (c .if-self .taken);
+          submit-spent-steps (g .Over·Field .model) (g .Over·Field·met .laws) (g .S·Server .table (x .server)) x (c .args .weights .now)
+          (sym (c .is-some .ensures) ∙ c .if-is-some .left) (c .if-self .taken);
     }
 
 pub returns-in-Break-i : need.returns-in-Break-i
@@ -71,14 +71,14 @@ returns-in-Pinning g c =
     let judged = c .in-Continue-i .ensures tt in
     let passed : RowCheck M (length T) ws None = subst (λ (n : ℕ). RowCheck M n ws None) (c .pre .sound .count) (judged .0) in
     let low : Lowest (PinnedWith M (length T) (rec-of (x .record)) (weights-of ws)) (c .in-Pinning .i .0) =
-      subst (λ (n : ℕ). Lowest (PinnedWith M n (rec-of (x .record)) (weights-of ws)) (c .in-Pinning .i .0)) (c .pre .sound .count)
-      (pinned-lowest M _ _ _ (c .in-Pinning .i) (subst (Judged M _ _ _) (c .in-Pinning .is) (judged .1))) in
+    subst (λ (n : ℕ). Lowest (PinnedWith M n (rec-of (x .record)) (weights-of ws)) (c .in-Pinning .i .0)) (c .pre .sound .count)
+    (pinned-lowest M _ _ _ (c .in-Pinning .i) (subst (Judged M _ _ _) (c .in-Pinning .is) (judged .1))) in
     record {
       sound = c .pre .sound;
       server = refl;
       kept = refl;
       law =
-        submit-disclosing-steps M (g .Over·Field·met .laws) T x ws (sym (c .is-some .ensures) ∙ c .if-is-some .left) left (c .in-Pinning .i .0) passed low;
+          submit-disclosing-steps M (g .Over·Field·met .laws) T x ws (sym (c .is-some .ensures) ∙ c .if-is-some .left) left (c .in-Pinning .i .0) passed low;
     }
 
 pub padded-requires : need.padded-requires
@@ -99,10 +99,10 @@ returns g c =
     let judged = c .in-Continue-i .ensures tt in
     let passed : RowCheck M (length T) ws None = subst (λ (n : ℕ). RowCheck M n ws None) (c .pre .sound .count) (judged .0) in
     let free : (i : ℕ) → PinnedWith M (length T) (rec-of (x .record)) (weights-of ws) i → ⊥ =
-      subst (λ (n : ℕ). (i : ℕ) → PinnedWith M n (rec-of (x .record)) (weights-of ws) i → ⊥) (c .pre .sound .count)
-      (judged-free-of M L _ _ (reduced-of M (x .record) (c .pre .sound .record-sound)) (x .record .«none_alone») (weights-of ws) (c .in-Continue-i .field-0) (judged .1) (c .in-rest .not-Pinning)) in
+    subst (λ (n : ℕ). (i : ℕ) → PinnedWith M n (rec-of (x .record)) (weights-of ws) i → ⊥) (c .pre .sound .count)
+    (judged-free-of M L _ _ (reduced-of M (x .record) (c .pre .sound .record-sound)) (x .record .«none_alone») (weights-of ws) (c .in-Continue-i .field-0) (judged .1) (c .in-rest .not-Pinning)) in
     let cut : take (length T) (c .padded .result) ≡ ws =
-      ap (λ k. take k (c .padded .result)) (sym (row-length M (length T) ws passed)) ∙ c .padded .ensures in
+    ap (λ k. take k (c .padded .result)) (sym (row-length M (length T) ws passed)) ∙ c .padded .ensures in
     record {
       sound = record {
         count = c .pre .sound .count;
@@ -115,12 +115,12 @@ returns g c =
       server = refl;
       kept = refl;
       law =
-        granted-steps M L T x ws (sym (c .is-some .ensures) ∙ c .if-is-some .left) left
-        (record {
-          server = x .server;
-          «record» = x .record;
-          issued = x .issued + 1;
-          pending = Some (record { permit = x .issued + 1; weights = c .padded .result });
-        })
-        (record { permit = x .issued + 1; weights = c .padded .result }) passed free refl refl refl refl cut;
+          granted-steps M L T x ws (sym (c .is-some .ensures) ∙ c .if-is-some .left) left
+          (record {
+            server = x .server;
+            «record» = x .record;
+            issued = x .issued + 1;
+            pending = Some (record { permit = x .issued + 1; weights = c .padded .result });
+          })
+          (record { permit = x .issued + 1; weights = c .padded .result }) passed free refl refl refl refl cut;
     }

@@ -1,0 +1,42 @@
+-- What the record's witness comes to in a session. Assumes nothing.
+use mathlib.Core.Path.{_≡_, refl, sym, ap, subst, _∙_}
+use mathlib.Core.List.{List}
+use Prim.Native.Nat.{ℕ}
+use lib.ListN.{length}
+use Rattle.std.specs.declared.option.Option.the-variants.{Some, None}
+use Rattle.std.specs.declared.result.Result.{Result}
+use Rattle.std.specs.declared.result.Result.the-variants.{Ok, Err}
+use Rattle.std.specs.Results.{Cases}
+use Rattle.refusal.specs.declared.Refusal.{Refusal}
+use Rattle.field.specs.Model.{FieldModel, FieldLaws}
+use Rattle.field.specs.Sums.{Codes, weights-of}
+use Rattle.field.specs.declared.Element.{Element}
+use Rattle.server.specs.Tables.{codes}
+use Rattle.echelon.specs.Rows.{Fits}
+use Rattle.echelon.specs.Reduced.{all-figured}
+use Rattle.echelon.specs.Witness.{Witness}
+use Rattle.record.specs.Checks.{WitnessCheck, accepted}
+use Rattle.record.specs.Records.{rec-of}
+use Rattle.history.specs.Events.{witnesses}
+use Rattle.session.specs.Views.{Steps, witness-reply}
+use Rattle.session.specs.declared.session.Session.{Session}
+use Rattle.session.proofs.Steps.{witness-refused-steps, witness-filled-steps}
+
+buffer-length : (M : FieldModel) (n i a l : ℕ) → WitnessCheck M n i a l None → l ≡ n
+buffer-length M n i a l (accepted h k e) = e
+
+pub witnessed :
+  {S V U : Type 0} (M : FieldModel) (L : FieldLaws M) (T : List ℕ) (x : Session S V) (n i a : ℕ) (before after : List Element) (r : Result U Refusal)
+  → n ≡ length T → length after ≡ length before
+  → Cases r
+    (λ z. WitnessCheck M n i a (length before) None × Witness M n (rec-of (x .record)) i a (weights-of after) × (weights-of after i ≡ a)
+    × Codes M n (weights-of after) × Fits M n (all-figured (rec-of (x .record))) (weights-of after))
+    (λ e. WitnessCheck M n i a (length before) (Some e) × (after ≡ before))
+  → Cases r (λ z. length after ≡ length before) (λ e. after ≡ before)
+    × Steps M T x (witnesses i a (length before)) (witness-reply r (codes after)) x
+witnessed M L T x n i a before after (Ok z) count size facts =
+    let passed : WitnessCheck M (length T) i a (length before) None = subst (λ (k : ℕ). WitnessCheck M k i a (length before) None) count (facts .0) in
+    let made : Witness M (length T) (rec-of (x .record)) i a (weights-of after) = subst (λ (k : ℕ). Witness M k (rec-of (x .record)) i a (weights-of after)) count (facts .1) in
+    (size, witness-filled-steps M L T x i a (length before) after passed (size ∙ buffer-length M (length T) i a (length before) passed) made)
+witnessed M L T x n i a before after (Err e) count size facts =
+    (facts .1, witness-refused-steps M L T x i a (length before) e (subst (λ (k : ℕ). WitnessCheck M k i a (length before) (Some e)) count (facts .0)))
