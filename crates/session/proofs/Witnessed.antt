@@ -26,13 +26,13 @@ buffer-length : (M : FieldModel) (n i a l : ℕ) → WitnessCheck M n i a l None
 buffer-length M n i a l (accepted h k e) = e
 
 pub witnessed :
-  {S V U : Type 0} (M : FieldModel) (L : FieldLaws M) (T : List ℕ) (x : Session S V) (n i a : ℕ) (before after : List Element) (r : Result U Refusal)
-  → n ≡ length T → length after ≡ length before
-  → Cases r
+    {S V U : Type 0} (M : FieldModel) (L : FieldLaws M) (T : List ℕ) (x : Session S V) (n i a : ℕ) (before after : List Element) (r : Result U Refusal)
+    → n ≡ length T → length after ≡ length before
+    → Cases r
     (λ z. WitnessCheck M n i a (length before) None × Witness M n (rec-of (x .record)) i a (weights-of after) × (weights-of after i ≡ a)
     × Codes M n (weights-of after) × Fits M n (all-figured (rec-of (x .record))) (weights-of after))
     (λ e. WitnessCheck M n i a (length before) (Some e) × (after ≡ before))
-  → Cases r (λ z. length after ≡ length before) (λ e. after ≡ before)
+    → Cases r (λ z. length after ≡ length before) (λ e. after ≡ before)
     × Steps M T x (witnesses i a (length before)) (witness-reply r (codes after)) x
 witnessed M L T x n i a before after (Ok z) count size facts =
     let passed : WitnessCheck M (length T) i a (length before) None = subst (λ (k : ℕ). WitnessCheck M k i a (length before) None) count (facts .0) in

@@ -1,6 +1,10 @@
 // Sessions: permits, the four calls, and a run over any list of calls.
+mod calls;
 mod permit;
+mod run;
 mod session;
 
+pub use calls::Call;
+pub use calls::Reply;
 pub use permit::Permit;
 pub use session::Session;

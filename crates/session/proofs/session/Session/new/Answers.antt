@@ -18,13 +18,13 @@ returns g c =
     let T = g .S·Server .table (c .args .server) in
     let none : rec-of (c .new .result) ≡ [] = c .new .ensures .empty in
     let count : c .new .result .count ≡ length T =
-      c .new .ensures .count ∙ ap bounded (c .count-count .ensures .is) ∙ table-count M T (c .count-count .ensures .lawful) in
+    c .new .ensures .count ∙ ap bounded (c .count-count .ensures .is) ∙ table-count M T (c .count-count .ensures .lawful) in
     record {
       server = refl;
       sound = record {
         count = count;
         record-sound =
-          subst (λ (rec : List Pivoted). (a : ℕ) → a < length rec → CodedRow M (c .new .result .count) (figured (at rec a))) (sym none) (λ a h. absurd (omega arith));
+            subst (λ (rec : List Pivoted). (a : ℕ) → a < length rec → CodedRow M (c .new .result .count) (figured (at rec a))) (sym none) (λ a h. absurd (omega arith));
         granted = tt;
       };
       holds = record {
