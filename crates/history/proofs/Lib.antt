@@ -1,0 +1,4 @@
+pub mod Searching
+pub mod Checked
+pub mod Replies
+pub mod Exact
