@@ -5,6 +5,7 @@ use mathlib.Core.Logic.{_≢_}
 use mathlib.Core.List.{List, [], _∷_, _++_, map}
 use Prim.Native.Nat.{ℕ, _+_, _<_}
 use native.Mathlib.Omega.{arith}
+use lib.ListN.{length}
 use Rattle.std.proofs.shelf.Lists.{map-append}
 use Rattle.std.specs.declared.option.Option.{Option}
 use Rattle.std.specs.declared.option.Option.the-variants.{Some, None}
@@ -13,10 +14,13 @@ use Rattle.field.specs.Model.{FieldModel, FieldLaws}
 use Rattle.field.specs.Sums.{Vector, sum, weights-of}
 use Rattle.field.specs.declared.Element.{Element}
 use Rattle.server.specs.Checks.{Lowest}
+use Rattle.server.specs.Tables.{value-at}
 use Rattle.echelon.specs.Rows.{Figured, rows-of, Agree, Pins}
+use Rattle.echelon.specs.Reduced.{Pivoted, ReducedForm}
+use Rattle.echelon.specs.Witness.{Witness}
 use Rattle.record.specs.Checks.{WitnessCheck}
 use Rattle.record.specs.Checks as checks
-use Rattle.history.specs.Events.{Call, Reply, Event, Start, OpenRow, submits, answers, withdraws, witnesses, permits, gives, takes-back, fills, refuses, one-if-permit, open-after, with-figure, newly-answered, issued, open-row, answered, given}
+use Rattle.history.specs.Events.{Call, Reply, Event, Start, OpenRow, submits, answers, withdraws, witnesses, permits, gives, takes-back, fills, refuses, refused, one-if-permit, open-after, with-figure, newly-answered, issued, open-row, answered, given}
 use Rattle.history.specs.Law.{PinnedBy, Ready, Due, permit-open, permits-spent, bad-row, discloses, granted, answer-refused, answered-with, withdrawal-refused, withdrawn, witness-refused, witness-filled}
 use Rattle.history.specs.Theorems.{Alike}
 use Rattle.history.proofs.Checked.{witness-check-one, witness-check-apart}
@@ -74,11 +78,11 @@ module _ (s : Start) (h h′ : List Event) (same : SameState s h h′) where
     withdrawn-also k o is e r (withdrawn j o′ is′ e′) = refl
 
     witness-refused-also :
-        (i a l : ℕ) (e : Refusal) → WitnessCheck M n i a l (Some e) → (r : Reply) → Due M n u s h′ (witnesses i a l) r → Alike (Rattle.history.specs.Events.refused e) r
+        (i a l : ℕ) (e : Refusal) → WitnessCheck M n i a l (Some e) → (r : Reply) → Due M n u s h′ (witnesses i a l) r → Alike (refused e) r
     witness-refused-also i a l e bad r (witness-refused i′ a′ l′ e′ check) =
         let both : _≡_ {A = Option Refusal} (Some e′) (Some e) = witness-check-one M n i a l _ _ check bad in
         let one : e′ ≡ e = cc in
-        ap Rattle.history.specs.Events.refused one
+        ap refused one
     witness-refused-also i a l e bad r (witness-filled i′ a′ l′ rec w check form len wit) = absurd (witness-check-apart M n i a l e check bad)
 
     witness-filled-also : (i a l : ℕ) → WitnessCheck M n i a l None → (r : Reply) → Due M n u s h′ (witnesses i a l) r → (w : List ℕ) × (r ≡ fills w)
@@ -164,6 +168,9 @@ state-after s h h′ same e e′ call like = record {
       ∙ sym (map-append (λ (g : Figured). g .row) (newly-answered (e′ .reply) (open-row h′)) (answered h′));
 }
 
+inside : (M : FieldModel) (n i a l : ℕ) → WitnessCheck M n i a l None → i < n
+inside M n i a l (checks.accepted b c d) = b
+
 -- after one history, replies over two tables are equal where they give what is newly answered equal sums
 module _ (M : FieldModel) (L : FieldLaws M) (n : ℕ) (t u : Vector) (s : Start) (h : List Event) where
   equal-figure :
@@ -175,8 +182,30 @@ module _ (M : FieldModel) (L : FieldLaws M) (n : ℕ) (t u : Vector) (s : Start)
       ap gives (sums ∙ ap (λ p. sum M n (weights-of (p .weights)) u) one)
 
   equal-fill :
-      (i a l : ℕ) (w : List ℕ) (good : WitnessCheck M n i a l None) → ((w′ : List ℕ) → Due M n u s h (witnesses i a l) (fills w′) → w ≡ w′)
-      → (r : Reply) → Due M n u s h (witnesses i a l) r → fills w ≡ r
-  equal-fill i a l w good one r due =
-      let (w′, is) = witness-filled-also s h h (state-refl s h) M n u i a l good r due in
-      ap fills (one w′ (subst (Due M n u s h (witnesses i a l)) is due)) ∙ sym is
+      (i a l : ℕ) (rec : List Pivoted) (w : List ℕ) → WitnessCheck M n i a l None → ReducedForm M n (given s h) rec → length w ≡ n
+      → Witness M n rec i a (value-at w) → (r : Reply) → Due M n u s h (witnesses i a l) r → fills w ≡ r
+  equal-fill i a l rec w good form len wit r (witness-refused i′ a′ l′ e check) = absurd (witness-check-apart M n i a l e good check)
+  equal-fill i a l rec w good form len wit r (witness-filled i′ a′ l′ rec′ w′ check form′ len′ wit′) =
+      ap fills (filled-one M L n (given s h) rec rec′ form form′ i a (inside M n i a l good) w w′ len len′ wit wit′)
+
+  pub equal-reply :
+      (c : Call) (r r′ : Reply) → Due M n t s h c r → Due M n u s h c r′ → Agree M n (rows-of (newly-answered r (open-row h))) t u → r ≡ r′
+  equal-reply c r r′ (permit-open ws p) due agree = sym (alike s h h (state-refl s h) M n u t c _ r′ (permit-open ws p) due)
+  equal-reply c r r′ (permits-spent ws p q) due agree = sym (alike s h h (state-refl s h) M n u t c _ r′ (permits-spent ws p q) due)
+  equal-reply c r r′ (bad-row ws e ready check) due agree =
+      sym (alike s h h (state-refl s h) M n u t c _ r′ (bad-row ws e ready check) due)
+  equal-reply c r r′ (discloses ws i ready check low) due agree =
+      sym (alike s h h (state-refl s h) M n u t c _ r′ (discloses ws i ready check low) due)
+  equal-reply c r r′ (granted ws ready check none) due agree =
+      sym (alike s h h (state-refl s h) M n u t c _ r′ (granted ws ready check none) due)
+  equal-reply c r r′ (answer-refused k not) due agree = sym (alike s h h (state-refl s h) M n u t c _ r′ (answer-refused k not) due)
+  equal-reply c r r′ (answered-with k o is e) due agree =
+      let v = sum M n (weights-of (o .weights)) t in
+      let sums : Agree M n (rows-of (with-figure v (Some o))) t u = subst (λ (x : Option OpenRow). Agree M n (rows-of (with-figure v x)) t u) is agree in
+      equal-figure k o is r′ due e (sums .0)
+  equal-reply c r r′ (withdrawal-refused k not) due agree =
+      sym (alike s h h (state-refl s h) M n u t c _ r′ (withdrawal-refused k not) due)
+  equal-reply c r r′ (withdrawn k o is e) due agree = sym (alike s h h (state-refl s h) M n u t c _ r′ (withdrawn k o is e) due)
+  equal-reply c r r′ (witness-refused i a l e check) due agree =
+      sym (alike s h h (state-refl s h) M n u t c _ r′ (witness-refused i a l e check) due)
+  equal-reply c r r′ (witness-filled i a l rec w check form len wit) due agree = equal-fill i a l rec w check form len wit r′ due

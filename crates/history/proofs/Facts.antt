@@ -40,7 +40,7 @@ pub record Known (M : FieldModel) (n : ℕ) (o : Option OpenRow) (k : ℕ) (rows
 abbrev pub After : FieldModel → ℕ → Start → List Event → Type 0
 After M n s h = Known M n (open-row h) (issued s h) (given s h)
 
-not-open : (p : OpenRow) → _≡_ {A = Option OpenRow} None (Some p) → ⊥
+pub not-open : (p : OpenRow) → _≡_ {A = Option OpenRow} None (Some p) → ⊥
 not-open p e = let z : _≡_ {A = ℕ} 0 1 = cc in omega arith
 
 module _ (M : FieldModel) (n : ℕ) where

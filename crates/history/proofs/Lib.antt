@@ -5,3 +5,7 @@ pub mod Exact
 pub mod Facts
 pub mod Leading
 pub mod Alike
+pub mod Unseen
+pub mod Possible
+pub mod Forming
+pub mod OneReply
