@@ -2,7 +2,7 @@
 -- replies are alike, and equal where the sums are. Assumes nothing.
 use mathlib.Core.Path.{_≡_, refl, sym, ap, ap₂, subst, _∙_}
 use mathlib.Core.Logic.{_≢_}
-use mathlib.Core.List.{List, [], _∷_, _++_, map}
+use mathlib.Core.List.{List, _∷_, _++_}
 use Prim.Native.Nat.{ℕ, _+_, _<_}
 use native.Mathlib.Omega.{arith}
 use lib.ListN.{length}
@@ -13,7 +13,6 @@ use Rattle.refusal.specs.declared.Refusal.{Refusal}
 use Rattle.field.specs.Model.{FieldModel, FieldLaws}
 use Rattle.field.specs.Sums.{Vector, sum, weights-of}
 use Rattle.field.specs.declared.Element.{Element}
-use Rattle.server.specs.Checks.{Lowest}
 use Rattle.server.specs.Tables.{value-at}
 use Rattle.echelon.specs.Rows.{Figured, rows-of, Agree, Pins}
 use Rattle.echelon.specs.Reduced.{Pivoted, ReducedForm}

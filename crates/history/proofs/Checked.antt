@@ -2,7 +2,7 @@
 use mathlib.Core.Path.{_≡_, refl, ap}
 use mathlib.Core.Logic.{_≢_, _⊎_, inl, inr}
 use mathlib.Core.List.{List}
-use Prim.Native.Nat.{ℕ, _≤_, _<_}
+use Prim.Native.Nat.{ℕ, _<_}
 use native.Mathlib.Decide.{ℕ-discrete, decLt, decLe}
 use native.Mathlib.Omega.{arith}
 use lib.ListN.{length}
@@ -15,7 +15,7 @@ use Rattle.field.specs.Model.{FieldModel}
 use Rattle.field.specs.Sums.{Codes, weights-of}
 use Rattle.field.specs.declared.Element.{Element}
 use Rattle.server.specs.Checks.{Lowest}
-use Rattle.record.specs.Checks.{RowCheck, WitnessCheck, StrayWeight, NoneNamed}
+use Rattle.record.specs.Checks.{RowCheck, WitnessCheck, StrayWeight}
 use Rattle.record.specs.Checks as checks
 use Rattle.record.proofs.Checks.{none-stray}
 use Rattle.history.proofs.Searching.{lowest-one, lowest-below, not-zero, not-not-zero}

@@ -1,6 +1,6 @@
 -- What holds after every lawful history: `after` says it of rows, figures and permits, `table-fits` of the table.
 -- Assumes nothing.
-use mathlib.Core.Path.{_≡_, refl, sym, ap, subst, _∙_}
+use mathlib.Core.Path.{_≡_, refl, sym, ap, subst}
 use mathlib.Core.List.{List, [], _∷_, _++_}
 use Prim.Native.Nat.{ℕ, _+_, _≤_, _<_}
 use native.Mathlib.Nat.{add-zero}
@@ -13,8 +13,8 @@ use Rattle.echelon.specs.Rows.{Figured, rows-of, RowsCodes, Fits, Pins}
 use Rattle.echelon.proofs.Codes.{sum-below, zero-code, one-code}
 use Rattle.record.specs.Checks.{RowCheck}
 use Rattle.record.proofs.Verdict.{row-codes}
-use Rattle.history.specs.Events.{Call, Reply, Event, Start, OpenRow, new-session, gives, one-if-permit, open-after, with-figure, newly-answered, issued, open-row, answered, given}
-use Rattle.history.specs.Law.{PinnedBy, Due, permit-open, permits-spent, bad-row, discloses, granted, answer-refused, answered-with, withdrawal-refused, withdrawn, witness-refused, witness-filled, Lawful, begins, goes-on}
+use Rattle.history.specs.Events.{Call, Reply, Event, Start, OpenRow, new-session, answers, gives, one-if-permit, open-after, with-figure, newly-answered, issued, open-row, answered, given}
+use Rattle.history.specs.Law.{PinnedBy, Due, permit-open, permits-spent, bad-row, discloses, granted, answer-refused, answered-with, withdrawal-refused, withdrawn, witness-refused, witness-filled, Lawful, goes-on}
 use Rattle.history.specs.Theorems.{FiguresCodes, Sane}
 
 pub before : (M : FieldModel) (n : ℕ) (t : Vector) (s : Start) (e : Event) (h : List Event) → Lawful M n t s (e ∷ h) → Lawful M n t s h
@@ -85,8 +85,9 @@ module _ (M : FieldModel) (n : ℕ) where
       }
 
 module _ (M : FieldModel) (L : FieldLaws M) (n : ℕ) (t : Vector) (ct : Codes M n t) (s : Start) where
-  sum-code : (o : OpenRow) (k : ℕ) (rows : List Figured) → OpenFacts M n k rows o → sum M n (weights-of (o .weights)) t < M .size
-  sum-code o k rows facts = sum-below M L n (weights-of (o .weights)) t (row-codes M n (o .weights) (facts .checked)) ct
+  -- the figure of the open row is an element
+  pub figure-code : (o : OpenRow) (k : ℕ) (rows : List Figured) → OpenFacts M n k rows o → sum M n (weights-of (o .weights)) t < M .size
+  figure-code o k rows facts = sum-below M L n (weights-of (o .weights)) t (row-codes M n (o .weights) (facts .checked)) ct
 
   pub after-one :
       (h : List Event) (c : Call) (r : Reply) → After M n s h → Due M n t s h c r
@@ -100,7 +101,7 @@ module _ (M : FieldModel) (L : FieldLaws M) (n : ℕ) (t : Vector) (ct : Codes M
   after-one h c r known (answer-refused k not) = same-count M n _ _ _ known
   after-one h c r known (answered-with k o is same) =
       let v = sum M n (weights-of (o .weights)) t in
-      let code : v < M .size = sum-code o (issued s h) (given s h) (known .open-facts o is) in
+      let code : v < M .size = figure-code o (issued s h) (given s h) (known .open-facts o is) in
       let here : Known M n (Some o) (issued s h) (given s h) = subst (λ (x : Option OpenRow). Known M n x (issued s h) (given s h)) is known in
       subst (λ (x : Option OpenRow). Known M n None (issued s h + 0) ((with-figure v x ++ answered h) ++ s .rows)) (sym is)
       (same-count M n _ _ _ (answers-open M n o (issued s h) (given s h) v code here))
@@ -143,6 +144,12 @@ module _ (M : FieldModel) (n : ℕ) (t : Vector) (s : Start) where
   table-fits fits [] lawful = fits
   table-fits fits (e ∷ h) lawful =
       fits-one h (e .call) (e .reply) (table-fits fits h (before M n t s e h lawful)) (last-due M n t s e h lawful)
+
+-- the answer to the open row, once given
+pub given-answer :
+    (s : Start) (h : List Event) (k v : ℕ) (o : OpenRow) → open-row h ≡ Some o
+    → given s (record { call = answers k; reply = gives v } ∷ h) ≡ record { row = weights-of (o .weights); figure = v } ∷ given s h
+given-answer s h k v o is = ap (λ x. (with-figure v x ++ answered h) ++ s .rows) is
 
 -- a new session is a sane start
 pub new-sane : (M : FieldModel) → FieldLaws M → (n : ℕ) → Sane M n new-session

@@ -9,3 +9,4 @@ pub mod Unseen
 pub mod Possible
 pub mod Forming
 pub mod OneReply
+pub mod ByRecord

@@ -9,10 +9,10 @@ use Rattle.std.specs.declared.option.Option.{Option}
 use Rattle.std.specs.declared.option.Option.the-variants.{Some, None}
 use Rattle.refusal.specs.declared.Refusal.{Refusal}
 use Rattle.field.specs.Model.{FieldModel, FieldLaws}
-use Rattle.field.specs.Sums.{Vector, Codes, weights-of}
+use Rattle.field.specs.Sums.{Vector}
 use Rattle.field.specs.declared.Element.{Element}
 use Rattle.server.specs.Checks.{Lowest}
-use Rattle.echelon.specs.Rows.{Figured, rows-of, Agree, Pins}
+use Rattle.echelon.specs.Rows.{rows-of, Agree}
 use Rattle.echelon.proofs.Codes.{zero-code}
 use Rattle.record.specs.Checks.{RowCheck, WitnessCheck}
 use Rattle.record.specs.Checks as checks

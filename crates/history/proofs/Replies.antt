@@ -1,8 +1,8 @@
 -- The reply that is due to a submitted row, where it is known how far the checks go. Assumes nothing.
-use mathlib.Core.Path.{_≡_, refl, sym, ap, _∙_}
+use mathlib.Core.Path.{_≡_, refl, ap}
 use mathlib.Core.Logic.{_≢_}
 use mathlib.Core.List.{List}
-use Prim.Native.Nat.{ℕ, _+_, _<_}
+use Prim.Native.Nat.{ℕ, _+_}
 use native.Mathlib.Omega.{arith}
 use Rattle.std.specs.declared.option.Option.{Option}
 use Rattle.std.specs.declared.option.Option.the-variants.{Some, None}
@@ -13,7 +13,7 @@ use Rattle.field.specs.Sums.{Vector}
 use Rattle.field.specs.declared.Element.{Element}
 use Rattle.server.specs.Checks.{Lowest}
 use Rattle.record.specs.Checks.{RowCheck}
-use Rattle.history.specs.Events.{Reply, Event, Start, OpenRow, submits, permits, refuses, refused, issued, open-row, given}
+use Rattle.history.specs.Events.{Reply, Event, Start, submits, permits, refuses, refused, issued, open-row, given}
 use Rattle.history.specs.Law.{PinnedBy, Ready, Due, permit-open, permits-spent, bad-row, discloses, granted}
 use Rattle.history.proofs.Searching.{lowest-one}
 use Rattle.history.proofs.Checked.{row-check-one, row-check-apart}
