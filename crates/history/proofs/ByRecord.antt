@@ -1,7 +1,6 @@
 -- What a record tells that is the reduced form of the rows given: whom a row would pin, and what the table's sums are.
 -- Assumes nothing.
-use mathlib.Core.Path.{_≡_}
-use mathlib.Core.List.{List, _∷_}
+use mathlib.Core.List.{List}
 use Prim.Native.Nat.{ℕ, _<_}
 use Rattle.field.specs.Model.{FieldModel, FieldLaws}
 use Rattle.field.specs.Sums.{Vector, Codes, weights-of}
