@@ -1,0 +1,12 @@
+pub mod Searching
+pub mod Checked
+pub mod Replies
+pub mod Exact
+pub mod Facts
+pub mod Leading
+pub mod Alike
+pub mod Unseen
+pub mod Possible
+pub mod Forming
+pub mod OneReply
+pub mod ByRecord
