@@ -1,8 +1,11 @@
 -- What the record's witness comes to in a session. Assumes nothing.
 use mathlib.Core.Path.{_≡_, refl, sym, ap, subst, _∙_}
 use mathlib.Core.List.{List}
-use Prim.Native.Nat.{ℕ}
+use mathlib.Core.Logic.{_⊎_, inl, inr}
+use Prim.Native.Nat.{ℕ, _≤_, _<_}
+use native.Mathlib.Omega.{arith}
 use lib.ListN.{length}
+use Rattle.std.specs.declared.option.Option.{Option}
 use Rattle.std.specs.declared.option.Option.the-variants.{Some, None}
 use Rattle.std.specs.declared.result.Result.{Result}
 use Rattle.std.specs.declared.result.Result.the-variants.{Ok, Err}
@@ -15,14 +18,14 @@ use Rattle.server.specs.Tables.{codes}
 use Rattle.echelon.specs.Rows.{Fits}
 use Rattle.echelon.specs.Reduced.{all-figured}
 use Rattle.echelon.specs.Witness.{Witness}
-use Rattle.record.specs.Checks.{WitnessCheck, accepted}
+use Rattle.record.specs.Checks.{WitnessCheck, no-such-member, not-an-element, wrong-length, accepted}
 use Rattle.record.specs.Records.{rec-of}
 use Rattle.history.specs.Events.{witnesses}
 use Rattle.session.specs.Views.{Steps, witness-reply}
 use Rattle.session.specs.declared.session.Session.{Session}
 use Rattle.session.proofs.Steps.{witness-refused-steps, witness-filled-steps}
 
-buffer-length : (M : FieldModel) (n i a l : ℕ) → WitnessCheck M n i a l None → l ≡ n
+pub buffer-length : (M : FieldModel) (n i a l : ℕ) → WitnessCheck M n i a l None → l ≡ n
 buffer-length M n i a l (accepted h k e) = e
 
 pub witnessed :
@@ -40,3 +43,17 @@ witnessed M L T x n i a before after (Ok z) count size facts =
     (size, witness-filled-steps M L T x i a (length before) after passed (size ∙ buffer-length M (length T) i a (length before) passed) made)
 witnessed M L T x n i a before after (Err e) count size facts =
     (facts .1, witness-refused-steps M L T x i a (length before) e (subst (λ (k : ℕ). WitnessCheck M k i a (length before) (Some e)) count (facts .0)))
+
+-- the buffer of a run's own: as long as the one brought, or empty where that is longer than any table
+abbrev pub Own : ℕ → ℕ → Type 0
+Own own buffer = ((buffer ≤ 64) × (own ≡ buffer)) ⊎ ((64 < buffer) × (own ≡ 0))
+
+pub own-check :
+  (M : FieldModel) (n i a own buffer : ℕ) (r : Option Refusal) → 1 ≤ n → n ≤ 64 → Own own buffer → WitnessCheck M n i a own r
+  → WitnessCheck M n i a buffer r
+own-check M n i a own buffer r some few o (no-such-member h) = no-such-member h
+own-check M n i a own buffer r some few o (not-an-element h k) = not-an-element h k
+own-check M n i a own buffer r some few (inl (low, same)) (wrong-length h k ne) = wrong-length h k (λ e. ne (same ∙ e))
+own-check M n i a own buffer r some few (inr (high, same)) (wrong-length h k ne) = wrong-length h k (λ e. omega arith)
+own-check M n i a own buffer r some few (inl (low, same)) (accepted h k e) = accepted h k (sym same ∙ e)
+own-check M n i a own buffer r some few (inr (high, same)) (accepted h k e) = absurd (omega arith)

@@ -21,3 +21,4 @@ pub struct Session<S: Server> {
 mod begin;
 mod calls;
 mod permitted;
+mod replies;

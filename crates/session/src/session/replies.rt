@@ -1,22 +1,15 @@
-// A run: a new session over any server, given any list of calls.
+// One call of a list, and its reply.
 ghost use mathlib.Core.Path.{_≡_};
 ghost use lib.ListN.{length};
-ghost use Rattle.std.specs.Of.Vec.{vec-items, vec-len};
-ghost use Rattle.std.specs.Vec.{made};
-ghost use Rattle.server.specs.Tables.{value-at};
-ghost use Rattle.history.specs.Events.{new-session, witnesses};
-ghost use Rattle.history.specs.Law.{Lawful};
+ghost use Rattle.history.specs.Events.{witnesses};
 ghost use Rattle.session.specs.Views.{Sound, Steps};
-ghost use Rattle.session.specs.Runs.{call-of, reply-of, history};
+ghost use Rattle.session.specs.Runs.{call-of, reply-of};
 use crate::calls::Call;
 use crate::calls::Reply;
 use crate::session::Session;
 use field::Element;
-use record::Room;
 use refusal::Member;
 use server::Server;
-use std::alloc::AllocError;
-use std::alloc::Global;
 
 impl<S: Server> Session<S> {
     // Fills a buffer of its own, as long as the one that the call brings. A longer one than any table has is refused
@@ -27,7 +20,7 @@ impl<S: Server> Session<S> {
     {
         let mut out = [Element(0); 64];
         let own = if buffer <= 64 { buffer } else { 0 };
-        match self.witness(member, element, &mut out[0..own]) {
+        match self.record.witness(member, element, &mut out[0..own]) {
             Ok(()) => Reply::Fills(out),
             Err(e) => Reply::Refuses(e),
         }
