@@ -49,8 +49,8 @@ abbrev pub Own : ℕ → ℕ → Type 0
 Own own buffer = ((buffer ≤ 64) × (own ≡ buffer)) ⊎ ((64 < buffer) × (own ≡ 0))
 
 pub own-check :
-  (M : FieldModel) (n i a own buffer : ℕ) (r : Option Refusal) → 1 ≤ n → n ≤ 64 → Own own buffer → WitnessCheck M n i a own r
-  → WitnessCheck M n i a buffer r
+    (M : FieldModel) (n i a own buffer : ℕ) (r : Option Refusal) → 1 ≤ n → n ≤ 64 → Own own buffer → WitnessCheck M n i a own r
+    → WitnessCheck M n i a buffer r
 own-check M n i a own buffer r some few o (no-such-member h) = no-such-member h
 own-check M n i a own buffer r some few o (not-an-element h k) = not-an-element h k
 own-check M n i a own buffer r some few (inl (low, same)) (wrong-length h k ne) = wrong-length h k (λ e. ne (same ∙ e))

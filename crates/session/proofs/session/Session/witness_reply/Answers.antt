@@ -27,15 +27,15 @@ zero-element = record { 0 = 0 }
 own-buffer : (g : _) (c : Joined-buffer-le64 g) → Own (c .if-buffer-le64 .own) (c .args .buffer)
 own-buffer g c =
     elim (c .if-buffer-le64 .came) [
-      then-buffer-le64 w ↦ inl (w .if-buffer-le64 .taken, w .own-is)
-    | else-buffer-le64 w ↦ inr (w .if-buffer-le64 .left, w .own-is)
+      | then-buffer-le64 w ↦ inl (w .if-buffer-le64 .taken, w .own-is)
+      | else-buffer-le64 w ↦ inr (w .if-buffer-le64 .left, w .own-is)
     ]
 
 own-few : (g : _) (c : Joined-buffer-le64 g) → c .if-buffer-le64 .own ≤ 64
 own-few g c =
     elim (c .if-buffer-le64 .came) [
-      then-buffer-le64 w ↦ omega (arith, w .if-buffer-le64 .taken, w .own-is)
-    | else-buffer-le64 w ↦ omega (arith, w .own-is)
+      | then-buffer-le64 w ↦ omega (arith, w .if-buffer-le64 .taken, w .own-is)
+      | else-buffer-le64 w ↦ omega (arith, w .own-is)
     ]
 
 -- how long the part of the 64 places is
@@ -58,10 +58,10 @@ returns-in-Ok g c =
     let passed : WitnessCheck M (x .record .count) i a own None = subst (λ (l : ℕ). WitnessCheck M (x .record .count) i a l None) size (facts .0) in
     let counted : own ≡ x .record .count = buffer-length M _ i a own passed in
     let brought : WitnessCheck M (length T) i a (c .args .buffer) None =
-      subst (λ (n : ℕ). WitnessCheck M n i a (c .args .buffer) None) (c .pre .sound .count)
-      (own-check M (x .record .count) i a own (c .args .buffer) None (members .0) (members .1) (own-buffer g here) passed) in
+    subst (λ (n : ℕ). WitnessCheck M n i a (c .args .buffer) None) (c .pre .sound .count)
+    (own-check M (x .record .count) i a own (c .args .buffer) None (members .0) (members .1) (own-buffer g here) passed) in
     let made : Witness M (length T) (rec-of (x .record)) i a (weights-of (c .witness .last .out)) =
-      subst (λ (n : ℕ). Witness M n (rec-of (x .record)) i a (weights-of (c .witness .last .out))) (c .pre .sound .count) (facts .1) in
+    subst (λ (n : ℕ). Witness M n (rec-of (x .record)) i a (weights-of (c .witness .last .out))) (c .pre .sound .count) (facts .1) in
     let long : length (c .witness .last .out) ≡ length T = c .witness .kept .out ∙ size ∙ counted ∙ c .pre .sound .count in
     let front : c .witness .last .out ≡ take (length T) (c .witness .last .out ++ drop (own - 0) (replicate 64 zero-element)) = sym (take-at (c .witness .last .out) _ (length T) long) in
     subst (λ (ws : List Element). Steps M T x (witnesses i a (c .args .buffer)) (fills (codes ws)) x) front
@@ -79,7 +79,7 @@ returns-in-Err g c =
     let e = c .in-Err .e in
     let members = x .record .members in
     let fails : WitnessCheck M (x .record .count) i a own (Some e) =
-      subst (λ (l : ℕ). WitnessCheck M (x .record .count) i a l (Some e)) (part own (own-few g here)) (c .in-Err .ensures tt .0) in
+    subst (λ (l : ℕ). WitnessCheck M (x .record .count) i a l (Some e)) (part own (own-few g here)) (c .in-Err .ensures tt .0) in
     witness-refused-steps M (g .Over·Field·met .laws) T x i a (c .args .buffer) e
     (subst (λ (n : ℕ). WitnessCheck M n i a (c .args .buffer) (Some e)) (c .pre .sound .count)
-      (own-check M (x .record .count) i a own (c .args .buffer) (Some e) (members .0) (members .1) (own-buffer g here) fails))
+    (own-check M (x .record .count) i a own (c .args .buffer) (Some e) (members .0) (members .1) (own-buffer g here) fails))
