@@ -25,4 +25,5 @@ mod calls;
 mod eliminate;
 mod join;
 mod make;
+mod read;
 mod witness;

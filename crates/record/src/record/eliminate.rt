@@ -41,7 +41,8 @@ impl<F: Field> Record<F> {
         ensures coded { λ r. ⌜ CodedRow model (now (self .entry) .count) (figured-row r) ⌝ }
     {
         let mut left = FiguredRow::of(weights, figure);
-        for by in self.rows.as_slice() {
+        let rows = self.rows.as_slice();
+        for by in rows {
             left.clear::<F>(by, self.count);
         }
         left

@@ -19,7 +19,7 @@ use Rattle.record.proofs.record.Record.leftover.Needs as need
 pub clear-requires : need.clear-requires
 clear-requires g c κs =
     let r = c .args .self .now in
-    let here = facts-of (g .F·Field .model) r (c .as-slice-by-items .result .now) (c .as-slice-by-items .ensures .value) (c .pre .sound) (c .loop-by .by-index) (c .loop-by-test .taken) in
+    let here = facts-of (g .F·Field .model) r (c .as-slice-rows .result .now) (c .as-slice-rows .ensures .value) (c .pre .sound) (c .loop-by .by-index) (c .loop-by-test .taken) in
     record { few = r .members .1; pivot = here .pivot; coded = c .loop-by .inv .1; by-coded = here .coded }
 
 pub loop-by-again : need.loop-by-again
@@ -27,10 +27,10 @@ loop-by-again g c =
     let M = g .F·Field .model in
     let r = c .args .self .now in
     let a = c .loop-by .by-index in
-    let sl = c .as-slice-by-items .result .now in
+    let sl = c .as-slice-rows .result .now in
     let x = getD sl a no-record-row in
     let start = figured-row (c .of-left .result) in
-    let here = facts-of M r sl (c .as-slice-by-items .ensures .value) (c .pre .sound) a (c .loop-by-test .taken) in
+    let here = facts-of M r sl (c .as-slice-rows .ensures .value) (c .pre .sound) a (c .loop-by-test .taken) in
     let step : leftover M (take (a + 1) (rec-of r)) start ≡ cleared M (pivoted x) (leftover M (take a (rec-of r)) start) =
     ap (λ k. leftover M (take k (rec-of r)) start) (add-one a)
     ∙ leftover-next M (rec-of r) a (here .below) start
@@ -45,7 +45,7 @@ returns g c =
     let M = g .F·Field .model in
     let r = c .args .self .now in
     let start = figured-row (c .of-left .result) in
-    let whole = take-all (c .loop-by .by-index) (rec-of r) (simp length-map (omega (arith, c .as-slice-by-items .ensures .len))) in
+    let whole = take-all (c .loop-by .by-index) (rec-of r) (simp length-map (omega (arith, c .as-slice-rows .ensures .len))) in
     record {
       is = same-trans
           (subst (λ (l : List Pivoted). SameRow (r .count) (figured-row (c .loop-by .left)) (leftover M l start)) whole (c .loop-by .inv .0))
