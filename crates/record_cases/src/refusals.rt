@@ -80,8 +80,6 @@ const PAST_TICKS: [(&str, Ask); 3] = [
 ];
 
 pub(crate) fn run(rt: &LibcRuntime) -> io::Result<()> {
-    ask::all::<Amounts>(rt, "no members", 0, &[])?;
-    ask::all::<Amounts>(rt, "65 members", 65, &[])?;
     ask::all::<Amounts>(rt, "rows", 3, &ROWS)?;
     ask::all::<Amounts>(rt, "two faults", 3, &ORDER)?;
     ask::all::<Amounts>(rt, "witnesses", 3, &WITNESSES)?;
