@@ -1,0 +1,5 @@
+pub mod Bytes
+pub mod Digits
+pub mod Checks
+pub mod ItemChecks
+pub mod LineChecks

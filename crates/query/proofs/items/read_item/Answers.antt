@@ -1,0 +1,50 @@
+use mathlib.Core.Path.{_≡_, refl, sym, ap, _∙_}
+use Prim.Native.Nat.{ℕ, _+_, _-_, _*_, _≤_, _<_}
+use native.Mathlib.Omega.{arith}
+use borrow.Author.Needs.{needs}
+use Rattle.std.proofs.shelf.Results.{err-from-errBy}
+use Rattle.query.proofs.ItemChecks.{stands-within, spaced-moves, item-fault, item-repeated, item-weighed, weighed-plain, weighed-fault, weighed-more}
+use Rattle.query.proofs.items.read_item.Needs as need
+
+pub returns-in-Break-found : need.returns-in-Break-found
+returns-in-Break-found c =
+    let p = err-from-errBy (c .from-residual .result) (c .from-residual .ensures .1) in
+    let q1 = p .2 in
+    rw (p .1, p .2)
+    (sym (item-fault _ _ (c .args .line .now) (c .args .at .0) _ (sym (c .read-spaced .ensures) ∙ c .in-Break-found .was tt)))
+
+pub index-named-member : need.index-named-member
+index-named-member c =
+    let m = spaced-moves (c .args .limits .members) (c .args .line .now) (c .args .at .0) _ (sym (c .read-spaced .ensures) ∙ c .in-Continue-found .was tt) in
+    let q1 = c .pre in
+    let h = m .2 in omega arith
+
+pub returns-then-named-member-ne0 : need.returns-then-named-member-ne0
+returns-then-named-member-ne0 c =
+    sym (item-repeated _ _ (c .args .line .now) (c .args .at .0) _ (sym (c .read-spaced .ensures) ∙ c .in-Continue-found .was tt) (c .if-named-member-ne0 .taken))
+
+pub returns-then-not-stands : need.returns-then-not-stands
+returns-then-not-stands c =
+    sym (item-weighed _ _ (c .args .line .now) (c .args .at .0) (c .in-Continue-found .found) (sym (c .read-spaced .ensures) ∙ c .in-Continue-found .was tt)
+    (c .if-named-member-ne0 .left)
+    ∙ weighed-plain (c .args .limits) (c .args .line .now) (c .in-Continue-found .found) (sym (c .stands .ensures) ∙ c .if-not-stands .taken))
+
+pub add-found : need.add-found
+add-found c =
+    let h = stands-within (c .args .line .now) (c .in-Continue-found .found .after .0) 58 (sym (c .stands .ensures) ∙ c .if-not-stands .left) in search needs
+
+pub returns-in-Break-weight : need.returns-in-Break-weight
+returns-in-Break-weight c =
+    let p = err-from-errBy (c .from-residual-in-Break-weight .result) (c .from-residual-in-Break-weight .ensures .1) in
+    rw (p .1, p .2)
+    (sym (item-weighed _ _ (c .args .line .now) (c .args .at .0) (c .in-Continue-found .found) (sym (c .read-spaced .ensures) ∙ c .in-Continue-found .was tt)
+    (c .if-named-member-ne0 .left)
+    ∙ weighed-fault (c .args .limits) (c .args .line .now) (c .in-Continue-found .found) _ (sym (c .stands .ensures) ∙ c .if-not-stands .left)
+    (sym (c .read-number .ensures) ∙ c .in-Break-weight .was tt)))
+
+pub returns : need.returns
+returns c =
+    sym (item-weighed _ _ (c .args .line .now) (c .args .at .0) (c .in-Continue-found .found) (sym (c .read-spaced .ensures) ∙ c .in-Continue-found .was tt)
+    (c .if-named-member-ne0 .left)
+    ∙ weighed-more (c .args .limits) (c .args .line .now) (c .in-Continue-found .found) _ (sym (c .stands .ensures) ∙ c .if-not-stands .left)
+    (sym (c .read-number .ensures) ∙ c .in-Continue-weight .was tt))

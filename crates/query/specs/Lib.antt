@@ -1,0 +1,4 @@
+pub mod Refusals
+pub mod Numbers
+pub mod Items
+pub mod Lines
