@@ -174,7 +174,7 @@ spelt-ok least limit p (d ∷ ds) x e =
       high = rw v at high;
       value = sym v;
       start = sym (ap (λ r. r .start) (ok-same _ _ (three .1)));
-      after = sym (ap (λ r. r .after) (ok-same _ _ (three .1)))
+      after = sym (ap (λ r. r .after) (ok-same _ _ (three .1)));
     }
 
 pub number-ok :

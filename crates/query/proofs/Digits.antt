@@ -63,7 +63,7 @@ tells-fixed =
     record {
       empty = refl;
       parts = λ c cs e. let p = fixed-parts c cs e in (digit-range c (p .0), p .1);
-      more = λ c cs h e. fixed-more c cs (range-digit c (h .0) (h .1)) e
+      more = λ c cs h e. fixed-more c cs (range-digit c (h .0) (h .1)) e;
     }
 
 pub own : Numerals (λ ds. digits ds ≡ ds) (worth 0)
@@ -104,9 +104,9 @@ pub digit-more :
 digit-more line p ok =
     ⊎-elim
     (λ h.
-      let e = drop-more line p 0 h in
-      let t = tested (asciiDigit (getD line p 0)) _ _ (rw e at ok) in
-      (h, rw (e, t)))
+    let e = drop-more line p 0 h in
+    let t = tested (asciiDigit (getD line p 0)) _ _ (rw e at ok) in
+    (h, rw (e, t)))
     (λ h. let e = drop-all p line h in let z : _≡_ {A = ℕ} 0 1 = (let k : false ≡ true = (rw e at ok) in cc) in absurd (omega arith))
     (cases-lt p (length line))
 
@@ -115,7 +115,7 @@ pub digit-none : (line : List ℕ) (p : ℕ) → isOk (read-digit line p) ≡ fa
 digit-none line p no-digit =
     ⊎-elim
     (λ h.
-      let e = drop-more line p 0 h in
-      let f = untested (asciiDigit (getD line p 0)) _ _ (rw e at no-digit) in rw (e, f))
+    let e = drop-more line p 0 h in
+    let f = untested (asciiDigit (getD line p 0)) _ _ (rw e at no-digit) in rw (e, f))
     (λ h. rw (drop-all p line h))
     (cases-lt p (length line))

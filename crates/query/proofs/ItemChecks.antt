@@ -90,8 +90,8 @@ module _ (lim : Limits) (line : List ℕ) (m : Numeral) where
   weighed-ok i e =
       ⊎-elim
       (λ t.
-        let k = then-ok _ _ i (sym (cond-true _ _ _ t) ∙ e) in
-        subst (Weighed lim line m) (ok-same _ _ (k .2)) (weighted t (k .0) (of-item-ok _ _ (k .1))))
+      let k = then-ok _ _ i (sym (cond-true _ _ _ t) ∙ e) in
+      subst (Weighed lim line m) (ok-same _ _ (k .2)) (weighted t (k .0) (of-item-ok _ _ (k .1))))
       (λ f. subst (Weighed lim line m) (ok-same _ _ (sym (cond-false _ _ _ f) ∙ e)) (plain f))
       (cases-bool (stands-at line (m .after .0) 58))
 
@@ -172,9 +172,9 @@ module _ (lim : Limits) (line : List ℕ) where
   enough (suc j) (suc k) row p h g =
       then-same (read-item lim row line p) (next j row) (next k row)
       (λ i e.
-        let m = item-moves lim row line p i e .0 in
-        ap (λ r. cond (eqb (i .after .0) (length line)) (Ok (record { 0 = set row (i .member .0) (i .weight) })) r)
-        (enough j k (set row (i .member .0) (i .weight)) (i .after .0) (omega arith) (omega arith)))
+      let m = item-moves lim row line p i e .0 in
+      ap (λ r. cond (eqb (i .after .0) (length line)) (Ok (record { 0 = set row (i .member .0) (i .weight) })) r)
+      (enough j k (set row (i .member .0) (i .weight)) (i .after .0) (omega arith) (omega arith)))
 
 module _ (lim : Limits) (row : List Element) (line : List ℕ) (p : ℕ) where
   pub onward : Item → Result Weights ItemFault
@@ -188,9 +188,9 @@ module _ (lim : Limits) (row : List Element) (line : List ℕ) (p : ℕ) where
       enough lim line (length line - p) (suc (length line - p)) row p (omega arith) (omega arith)
       ∙ then-same (read-item lim row line p) (next lim line (length line - p) row) onward
       (λ i e.
-        let m = item-moves lim row line p i e .0 in
-        ap (λ r. cond (eqb (i .after .0) (length line)) (Ok (record { 0 = set row (i .member .0) (i .weight) })) r)
-        (enough lim line (length line - p) (length line - i .after .0) (set row (i .member .0) (i .weight)) (i .after .0) (omega arith) (omega arith)))
+      let m = item-moves lim row line p i e .0 in
+      ap (λ r. cond (eqb (i .after .0) (length line)) (Ok (record { 0 = set row (i .member .0) (i .weight) })) r)
+      (enough lim line (length line - p) (length line - i .after .0) (set row (i .member .0) (i .weight)) (i .after .0) (omega arith) (omega arith)))
 
   pub items-fault : (f : ItemFault) → read-item lim row line p ≡ Err f → read-items lim row line p ≡ Err f
   items-fault f e = items-unroll ∙ ap (λ r. then r onward) e

@@ -3,3 +3,4 @@ pub mod Digits
 pub mod Checks
 pub mod ItemChecks
 pub mod LineChecks
+pub mod Decimals

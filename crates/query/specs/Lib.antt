@@ -2,3 +2,5 @@ pub mod Refusals
 pub mod Numbers
 pub mod Items
 pub mod Lines
+pub mod Grammar
+pub mod Laws

@@ -50,14 +50,26 @@ fn read_item(line: &[u8], at: BytePlace, limits: Limits, named: &Weights) -> Res
         return Err(ItemFault::Repeated(found.start));
     }
     if !stands(line, found.after, ':') {
-        return Ok(Item { member, weight: Element(1), after: found.after });
+        return Ok(Item {
+            member,
+            weight: Element(1),
+            after: found.after,
+        });
     }
     let weight = read_number(line, BytePlace(found.after.0 + 1), 1, limits.size)?;
-    Ok(Item { member, weight: Element(weight.value), after: weight.after })
+    Ok(Item {
+        member,
+        weight: Element(weight.value),
+        after: weight.after,
+    })
 }
 
 // Reads the items from a place on to the line's end: one at least, each of another member.
-pub(crate) fn read_items(line: &[u8], start: BytePlace, limits: Limits) -> Result<Weights, ItemFault>
+pub(crate) fn read_items(
+    line: &[u8],
+    start: BytePlace,
+    limits: Limits,
+) -> Result<Weights, ItemFault>
     requires { ⌜ limits .members ≤ 64 ⌝ }
     ensures { λ r. ⌜ r ≡ read-items limits no-weights (now (line .entry)) (start .0) ⌝ }
 {

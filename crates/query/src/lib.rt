@@ -1,6 +1,7 @@
 // Query text: reading one line of it as a request, or finding its first fault.
 mod faults;
 mod items;
+mod laws;
 mod lines;
 mod numbers;
 mod refusals;
@@ -10,5 +11,6 @@ pub use faults::ItemFault;
 pub use faults::LineFault;
 pub use faults::NumberFault;
 pub use items::Weights;
+pub use laws::decimals_read_back;
 pub use lines::Request;
 pub use lines::read_line;

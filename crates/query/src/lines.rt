@@ -64,6 +64,9 @@ fn read_within(line: &[u8], limits: Limits) -> Result<Request, LineFault>
 pub fn read_line<F: Field>(line: &[u8], n: usize) -> Result<Request, LineFault>
     ensures { λ r. ⌜ r ≡ reading (limits model n) (now (line .entry)) ⌝ }
 {
-    let limits = Limits { members: n.min(64) as u32, size: F::size() };
+    let limits = Limits {
+        members: n.min(64) as u32,
+        size: F::size(),
+    };
     read_within(line, limits)
 }

@@ -80,7 +80,12 @@ fn leading_zero(first: u32, count: usize) -> bool
 }
 
 // Reads the number at a place, from `least` up and below `limit`.
-pub(crate) fn read_number(line: &[u8], at: BytePlace, least: u32, limit: u32) -> Result<Numeral, NumberFault>
+pub(crate) fn read_number(
+    line: &[u8],
+    at: BytePlace,
+    least: u32,
+    limit: u32,
+) -> Result<Numeral, NumberFault>
     ensures { λ r. ⌜ r ≡ read-number least limit (now (line .entry)) (at .0) ⌝ }
 {
     let first = read_digit(line, at)?;
@@ -96,5 +101,9 @@ pub(crate) fn read_number(line: &[u8], at: BytePlace, least: u32, limit: u32) ->
     if value < least || value >= limit {
         return Err(NumberFault::OutOfRange(at));
     }
-    Ok(Numeral { start: at, value, after: BytePlace(end) })
+    Ok(Numeral {
+        start: at,
+        value,
+        after: BytePlace(end),
+    })
 }

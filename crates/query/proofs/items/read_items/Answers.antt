@@ -43,7 +43,8 @@ loop-item-less c =
     omega (arith, m .0, m .1)
 
 pub loop-item-again : need.loop-item-again
-loop-item-again c =
-    (sym (items-more (c .args .limits) (c .loop-item .weights .0) (c .args .line .now) (c .loop-item .at .0) (c .in-Continue-item .item)
-    (sym (c .read-item .ensures) ∙ c .in-Continue-item .was tt) (c .if-at-line .left)) ∙ c .loop-item .inv .0,
-    length-set (c .loop-item .weights .0) _ _ ∙ c .loop-item .inv .1)
+loop-item-again c = (
+  sym (items-more (c .args .limits) (c .loop-item .weights .0) (c .args .line .now) (c .loop-item .at .0) (c .in-Continue-item .item)
+      (sym (c .read-item .ensures) ∙ c .in-Continue-item .was tt) (c .if-at-line .left)) ∙ c .loop-item .inv .0,
+  length-set (c .loop-item .weights .0) _ _ ∙ c .loop-item .inv .1,
+)

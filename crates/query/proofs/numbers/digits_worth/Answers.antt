@@ -23,9 +23,10 @@ add-value c =
 
 pub loop-b-again : need.loop-b-again
 loop-b-again c =
-    let w = worth-next (c .args .text .now) (c .loop-b .b-index) (c .loop-b .value) (c .loop-b-test .taken) (c .loop-b .inv .1) in
-    (ap (λ d. worth (c .loop-b .value * 10 + d) (drop (c .loop-b .b-index + 1) (c .args .text .now))) (c .from .ensures) ∙ w ∙ c .loop-b .inv .0,
-    fixed-next (c .args .text .now) (c .loop-b .b-index) (c .loop-b .value) (c .loop-b-test .taken) (c .loop-b .inv .1))
+    let w = worth-next (c .args .text .now) (c .loop-b .b-index) (c .loop-b .value) (c .loop-b-test .taken) (c .loop-b .inv .1) in (
+      ap (λ d. worth (c .loop-b .value * 10 + d) (drop (c .loop-b .b-index + 1) (c .args .text .now))) (c .from .ensures) ∙ w ∙ c .loop-b .inv .0,
+      fixed-next (c .args .text .now) (c .loop-b .b-index) (c .loop-b .value) (c .loop-b-test .taken) (c .loop-b .inv .1),
+    )
 
 pub returns : need.returns
 returns c =
