@@ -4,3 +4,6 @@ pub mod Checks
 pub mod ItemChecks
 pub mod LineChecks
 pub mod Decimals
+pub mod Soundness
+pub mod Completeness
+pub mod Exactness

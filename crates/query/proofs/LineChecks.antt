@@ -86,7 +86,7 @@ module _ (lim : Limits) where
     reading-kind way other = ⊎-elim (λ h. reading-short (h .0) (h .1)) (λ z. absurd (other z)) way
 
 -- a line of rows: what is made of its weights
-pub rows : {A : Type 0} → (Weights → A) → Result Weights ItemFault → Result A LineFault
+unfoldable pub rows : {A : Type 0} → (Weights → A) → Result Weights ItemFault → Result A LineFault
 rows make r = then (of-line r) (λ row. Ok (make row))
 
 pub row-fault :

@@ -2,6 +2,7 @@
 ghost use mathlib.Core.Path.{_≡_};
 ghost use Prim.Native.Nat.{_≤_};
 ghost use Rattle.query.specs.Lines.{read-witness, limits, reading};
+ghost use Rattle.query.specs.Laws.{Exact};
 use crate::faults::LineFault;
 use crate::faults::LineFaultFromItem;
 use crate::items::Limits;
@@ -62,7 +63,8 @@ fn read_within(line: &[u8], limits: Limits) -> Result<Request, LineFault>
 
 // Reads a line, without its newline, for a survey of `n` members: what it wants, or its first fault.
 pub fn read_line<F: Field>(line: &[u8], n: usize) -> Result<Request, LineFault>
-    ensures { λ r. ⌜ r ≡ reading (limits model n) (now (line .entry)) ⌝ }
+    ensures is { λ r. ⌜ r ≡ reading (limits model n) (now (line .entry)) ⌝ }
+    ensures exact { λ r. ⌜ Exact (limits model n) (now (line .entry)) r ⌝ }
 {
     let limits = Limits {
         members: n.min(64) as u32,
