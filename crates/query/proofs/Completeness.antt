@@ -26,7 +26,7 @@ use Rattle.query.specs.Lines.{read-witness, reading}
 use Rattle.query.specs.Grammar.{Entry, alone, weighted, member, weight, text, InRange, Apart, Named, with-weights, Spells, ask, try, witness, remark, Accepted}
 use Rattle.query.proofs.Bytes.{front-stands, front-other, front-none, stands-front}
 use Rattle.query.proofs.Decimals.{reads-decimal}
-use Rattle.query.proofs.ItemChecks.{spaced-some, item-weighed, weighed-plain, weighed-more, items-last, items-more}
+use Rattle.query.proofs.ItemChecks.{unnamed-zero, spaced-some, item-weighed, weighed-plain, weighed-more, items-last, items-more}
 use Rattle.query.proofs.LineChecks.{row-fine, kind-ask, kind-try, kind-witness, reading-remark, reading-short, witness-fine}
 
 -- what follows an item: nothing, or a space
@@ -77,7 +77,7 @@ module _ (lim : Limits) (few : lim .members ≤ 64) (size : lim .size ≤ 65536)
       let r = spaced-reads (lim .members) m line p rest (omega arith) below e (ends-digits rest ends) in
       let here : Numeral = record { start = place (p + 1); value = m; after = place (p + 1 + length (decimal m)) } in
       let after : p + 1 + length (decimal m) ≡ p + length (text (alone m)) = omega arith in
-      item-weighed lim row line p here r unnamed
+      item-weighed lim row line p here r (unnamed-zero row m unnamed)
       ∙ weighed-plain lim line here
       (ends-colon line (p + 1 + length (decimal m)) rest (spaced-left (lim .members) m line p rest (omega arith) below e) ends)
       ∙ ap (λ q. Ok (record { member = record { 0 = m }; weight = code 1; after = place q })) after
@@ -94,7 +94,7 @@ module _ (lim : Limits) (few : lim .members ≤ 64) (size : lim .size ≤ 65536)
       let n = reads-decimal 1 (lim .size) w line (q + 1) rest (omega arith) (range .1) high after-colon (ends-digits rest ends) in
       let sizes = length-append (decimal m) (58 ∷ decimal w) in
       let after : q + 1 + length (decimal w) ≡ p + length (text (weighted m w)) = omega arith in
-      item-weighed lim row line p here r unnamed
+      item-weighed lim row line p here r (unnamed-zero row m unnamed)
       ∙ weighed-more lim line here _ (front-stands line q 58 (decimal w ++ rest) after-m) n
       ∙ ap (λ k. Ok (record { member = record { 0 = m }; weight = code w; after = place k })) after
 

@@ -9,7 +9,7 @@ use lib.Dec.{eqb, ltb}
 use lib.ListN.{length, getD, set, drop}
 use Rattle.std.specs.declared.result.Result.{Result}
 use Rattle.std.specs.declared.result.Result.the-variants.{Ok, Err}
-use Rattle.std.proofs.shelf.Tests.{cases-bool, cases-lt, cond-true, cond-false, eq-eqb, ne-eqb, eqb-true}
+use Rattle.std.proofs.shelf.Tests.{cases-bool, cases-lt, cond-true, cond-false, eq-eqb, ne-eqb, eqb-true, not-false, not-from-true}
 use Rattle.field.specs.declared.Element.{Element}
 use Rattle.query.specs.declared.faults.NumberFault.{NumberFault}
 use Rattle.query.specs.declared.faults.ItemFault.{ItemFault}
@@ -19,9 +19,12 @@ use Rattle.query.specs.declared.items.Limits.{Limits}
 use Rattle.query.specs.declared.items.Item.{Item}
 use Rattle.query.specs.declared.items.Weights.{Weights}
 use Rattle.query.specs.Numbers.{place, byte-at, is-byte, stands-at, read-number}
-use Rattle.query.specs.Items.{code, weight-of, then, of-item, read-spaced, weighed, read-item, items-in, read-items}
+use Rattle.query.specs.Items.{code, weight-of, names, then, of-item, read-spaced, weighed, read-item, items-in, read-items}
 use Rattle.query.proofs.Bytes.{byte-past}
 use Rattle.query.proofs.Checks.{past-fault, before-fault, ok-same, number-ok, number-moves}
+
+pub unnamed-zero : (row : List Element) (m : ℕ) → weight-of row m ≡ 0 → names row m ≡ false
+unnamed-zero row m z = not-from-true _ (eq-eqb _ _ z)
 
 -- a byte stands only within the line
 pub stands-within : (line : List ℕ) (p b : ℕ) → stands-at line p b ≡ true → p < length line
@@ -97,23 +100,23 @@ module _ (lim : Limits) (line : List ℕ) (m : Numeral) where
 
 module _ (lim : Limits) (row : List Element) (line : List ℕ) (p : ℕ) where
   after-member : Numeral → Result Item ItemFault
-  after-member m = cond (eqb (weight-of row (m .value)) 0) (weighed lim line m) (Err (Repeated (m .start)))
+  after-member m = cond (names row (m .value)) (Err (Repeated (m .start))) (weighed lim line m)
 
   pub item-fault : (f : ItemFault) → read-spaced (lim .members) line p ≡ Err f → read-item lim row line p ≡ Err f
   unfolding read-item after-member
   item-fault f e = ap (λ r. then r after-member) e
 
   pub item-repeated :
-      (m : Numeral) → read-spaced (lim .members) line p ≡ Ok m → (weight-of row (m .value) ≡ 0 → ⊥)
+      (m : Numeral) → read-spaced (lim .members) line p ≡ Ok m → names row (m .value) ≡ true
       → read-item lim row line p ≡ Err (Repeated (m .start))
   unfolding read-item after-member
-  item-repeated m e n = ap (λ r. then r after-member) e ∙ cond-false _ _ _ (ne-eqb _ _ n)
+  item-repeated m e n = ap (λ r. then r after-member) e ∙ cond-true _ _ _ n
 
   pub item-weighed :
-      (m : Numeral) → read-spaced (lim .members) line p ≡ Ok m → weight-of row (m .value) ≡ 0
+      (m : Numeral) → read-spaced (lim .members) line p ≡ Ok m → names row (m .value) ≡ false
       → read-item lim row line p ≡ weighed lim line m
   unfolding read-item after-member
-  item-weighed m e z = ap (λ r. then r after-member) e ∙ cond-true _ _ _ (eq-eqb _ _ z)
+  item-weighed m e z = ap (λ r. then r after-member) e ∙ cond-false _ _ _ z
 
   pub record ItemRead (i : Item) : Type 0 where
     pub member : Numeral
@@ -125,8 +128,8 @@ module _ (lim : Limits) (row : List Element) (line : List ℕ) (p : ℕ) where
   unfolding read-item after-member
   item-ok i e =
       let k = then-ok _ _ i e in
-      let h = before-fault _ _ _ i (k .2) in
-      record { member = k .0; found = k .1; unnamed = eqb-true _ _ (h .0); item = weighed-ok lim line (k .0) i (h .1) }
+      let h = past-fault _ _ _ i (k .2) in
+      record { member = k .0; found = k .1; unnamed = eqb-true _ _ (not-false _ (h .0)); item = weighed-ok lim line (k .0) i (h .1) }
 
 moved :
     (lim : Limits) (line : List ℕ) (p : ℕ) (m : Numeral) (i : Item) → read-spaced (lim .members) line p ≡ Ok m → Weighed lim line m i

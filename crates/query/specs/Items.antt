@@ -3,7 +3,7 @@
 --   read-item lim row line p         the item at a place, of a member that the row does not name
 --   read-items lim row line p        the row with the weights of all items from a place on to the line's end
 -- Assumes nothing.
-use mathlib.Core.Bool.{Bool, true, false, cond}
+use mathlib.Core.Bool.{Bool, true, false, cond, not}
 use mathlib.Core.List.{List}
 use Prim.Native.Nat.{ℕ, zero, suc, _+_, _-_}
 use lib.Dec.{eqb}
@@ -29,6 +29,10 @@ no-weights = replicate 64 (code 0)
 -- the weight of a member in a row
 abbrev pub weight-of : List Element → ℕ → ℕ
 weight-of row m = getD row m (code 0) .0
+
+-- whether a row names a member: its weight there is not 0
+abbrev pub names : List Element → ℕ → Bool
+names row m = not (eqb (weight-of row m) 0)
 
 -- what to do with a value, where there is no fault
 abbrev pub then : {A B E : Type 0} → Result A E → (A → Result B E) → Result B E
@@ -56,7 +60,7 @@ weighed lim line m =
 unfoldable pub read-item : Limits → List Element → List ℕ → ℕ → Result Item ItemFault
 read-item lim row line p =
     then (read-spaced (lim .members) line p)
-    (λ m. cond (eqb (weight-of row (m .value)) 0) (weighed lim line m) (Err (Repeated (m .start))))
+    (λ m. cond (names row (m .value)) (Err (Repeated (m .start))) (weighed lim line m))
 
 -- at most `turns` items; each takes a byte at least, so that the bytes left are turns enough
 abbrev pub items-in : ℕ → Limits → List Element → List ℕ → ℕ → Result Weights ItemFault

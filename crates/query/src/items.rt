@@ -1,7 +1,7 @@
 // The items of a line, each after one space.
 ghost use mathlib.Core.Path.{_≡_};
-ghost use Prim.Native.Nat.{_≤_};
-ghost use Rattle.query.specs.Items.{read-spaced, read-item, read-items, no-weights};
+ghost use Prim.Native.Nat.{_≤_, _<_};
+ghost use Rattle.query.specs.Items.{names, read-spaced, read-item, read-items, no-weights};
 use crate::faults::ItemFault;
 use crate::faults::ItemFaultFromNumber;
 use crate::numbers::Numeral;
@@ -39,6 +39,14 @@ pub(crate) fn read_spaced(line: &[u8], at: BytePlace, limit: u32) -> Result<Nume
     Ok(read_number(line, BytePlace(at.0 + 1), 0, limit)?)
 }
 
+// Whether a member has a weight already.
+fn is_named(weights: &Weights, member: Member) -> bool
+    requires { ⌜ member .0 < 64 ⌝ }
+    ensures { λ r. ⌜ r ≡ names (now (weights .entry) .0) (member .0) ⌝ }
+{
+    weights.0[member.0].0 != 0
+}
+
 // Reads an item: a member that is not named yet, with or without a weight.
 fn read_item(line: &[u8], at: BytePlace, limits: Limits, named: &Weights) -> Result<Item, ItemFault>
     requires { ⌜ limits .members ≤ 64 ⌝ }
@@ -46,7 +54,7 @@ fn read_item(line: &[u8], at: BytePlace, limits: Limits, named: &Weights) -> Res
 {
     let found = read_spaced(line, at, limits.members)?;
     let member = Member(found.value as usize);
-    if named.0[member.0].0 != 0 {
+    if is_named(named, member) {
         return Err(ItemFault::Repeated(found.start));
     }
     if !stands(line, found.after, ':') {

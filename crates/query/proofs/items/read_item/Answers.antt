@@ -13,20 +13,19 @@ returns-in-Break-found c =
     rw (p .1, p .2)
     (sym (item-fault _ _ (c .args .line .now) (c .args .at .0) _ (sym (c .read-spaced .ensures) ∙ c .in-Break-found .was tt)))
 
-pub index-named-member : need.index-named-member
-index-named-member c =
+pub is-named-requires : need.is-named-requires
+is-named-requires c κs =
     let m = spaced-moves (c .args .limits .members) (c .args .line .now) (c .args .at .0) _ (sym (c .read-spaced .ensures) ∙ c .in-Continue-found .was tt) in
-    let q1 = c .pre in
-    let h = m .2 in omega arith
+    let h = m .2 in let few = c .pre in omega arith
 
-pub returns-then-named-member-ne0 : need.returns-then-named-member-ne0
-returns-then-named-member-ne0 c =
-    sym (item-repeated _ _ (c .args .line .now) (c .args .at .0) _ (sym (c .read-spaced .ensures) ∙ c .in-Continue-found .was tt) (c .if-named-member-ne0 .taken))
+pub returns-then-is-named : need.returns-then-is-named
+returns-then-is-named c =
+    sym (item-repeated _ _ (c .args .line .now) (c .args .at .0) _ (sym (c .read-spaced .ensures) ∙ c .in-Continue-found .was tt) (sym (c .is-named .ensures) ∙ c .if-is-named .taken))
 
 pub returns-then-not-stands : need.returns-then-not-stands
 returns-then-not-stands c =
     sym (item-weighed _ _ (c .args .line .now) (c .args .at .0) (c .in-Continue-found .found) (sym (c .read-spaced .ensures) ∙ c .in-Continue-found .was tt)
-    (c .if-named-member-ne0 .left)
+    (sym (c .is-named .ensures) ∙ c .if-is-named .left)
     ∙ weighed-plain (c .args .limits) (c .args .line .now) (c .in-Continue-found .found) (sym (c .stands .ensures) ∙ c .if-not-stands .taken))
 
 pub add-found : need.add-found
@@ -38,13 +37,13 @@ returns-in-Break-weight c =
     let p = err-from-errBy (c .from-residual-in-Break-weight .result) (c .from-residual-in-Break-weight .ensures .1) in
     rw (p .1, p .2)
     (sym (item-weighed _ _ (c .args .line .now) (c .args .at .0) (c .in-Continue-found .found) (sym (c .read-spaced .ensures) ∙ c .in-Continue-found .was tt)
-    (c .if-named-member-ne0 .left)
+    (sym (c .is-named .ensures) ∙ c .if-is-named .left)
     ∙ weighed-fault (c .args .limits) (c .args .line .now) (c .in-Continue-found .found) _ (sym (c .stands .ensures) ∙ c .if-not-stands .left)
     (sym (c .read-number .ensures) ∙ c .in-Break-weight .was tt)))
 
 pub returns : need.returns
 returns c =
     sym (item-weighed _ _ (c .args .line .now) (c .args .at .0) (c .in-Continue-found .found) (sym (c .read-spaced .ensures) ∙ c .in-Continue-found .was tt)
-    (c .if-named-member-ne0 .left)
+    (sym (c .is-named .ensures) ∙ c .if-is-named .left)
     ∙ weighed-more (c .args .limits) (c .args .line .now) (c .in-Continue-found .found) _ (sym (c .stands .ensures) ∙ c .if-not-stands .left)
     (sym (c .read-number .ensures) ∙ c .in-Continue-weight .was tt))
