@@ -30,18 +30,18 @@ use Rattle.query.proofs.ItemChecks.{unnamed-zero, spaced-some, item-weighed, w
 use Rattle.query.proofs.LineChecks.{row-fine, kind-ask, kind-try, kind-witness, reading-remark, reading-short, witness-fine}
 
 -- what follows an item: nothing, or a space
-abbrev Ends : List ℕ → Type 0
+abbrev pub Ends : List ℕ → Type 0
 Ends rest = (rest ≡ []) ⊎ ((bs : List ℕ) × (rest ≡ 32 ∷ bs))
 
-ends-digits : (rest : List ℕ) → Ends rest → digits rest ≡ []
+pub ends-digits : (rest : List ℕ) → Ends rest → digits rest ≡ []
 ends-digits rest (inl e) = ap digits e
 ends-digits rest (inr e) = ap digits (e .1)
 
-ends-colon : (line : List ℕ) (p : ℕ) (rest : List ℕ) → drop p line ≡ rest → Ends rest → stands-at line p 58 ≡ false
+pub ends-colon : (line : List ℕ) (p : ℕ) (rest : List ℕ) → drop p line ≡ rest → Ends rest → stands-at line p 58 ≡ false
 ends-colon line p rest d (inl e) = front-none line p 58 (d ∙ e)
 ends-colon line p rest d (inr e) = front-other line p 58 32 (e .0) (d ∙ e .1) (λ z. omega arith)
 
-ends-joined : (es : List Entry) → Ends (joined text es)
+pub ends-joined : (es : List Entry) → Ends (joined text es)
 ends-joined [] = inl refl
 ends-joined (alone m ∷ es) = inr (decimal m ++ joined text es, refl)
 ends-joined (weighted m w ∷ es) = inr ((decimal m ++ (58 ∷ decimal w)) ++ joined text es, refl)
@@ -51,7 +51,7 @@ both P Q [] p q = tt
 both P Q (x ∷ xs) p q = ((p .0, q .0), both P Q xs (p .1) (q .1))
 
 -- what is left of a line after a front of what was left
-left : (line : List ℕ) (p q : ℕ) (xs rest : List ℕ) → drop p line ≡ xs ++ rest → q ≡ p + length xs → drop q line ≡ rest
+pub left : (line : List ℕ) (p q : ℕ) (xs rest : List ℕ) → drop p line ≡ xs ++ rest → q ≡ p + length xs → drop q line ≡ rest
 left line p q xs rest e is =
     ap (λ k. drop k line) is ∙ sym (drop-drop (length xs) p line) ∙ ap (drop (length xs)) e ∙ drop-at xs rest (length xs) refl
 

@@ -73,3 +73,34 @@ was-decimal least limit line p x e =
     let back : drop (length ds) (drop p line) ≡ drop (x .after .0) line =
     drop-drop (length ds) p line ∙ ap (λ q. drop q line) (sym (ap (λ q. q .0) (r .after))) in
     sym (take-append-drop (length ds) (drop p line)) ∙ ap (λ u. u ++ drop (length ds) (drop p line)) front ∙ ap (λ u. decimal (x .value) ++ u) back
+
+-- a number that was read has five digits at most, and ends where they do
+pub record Wrote (line : List ℕ) (p : ℕ) (x : Numeral) : Type 0 where
+  pub is : drop p line ≡ decimal (x .value) ++ drop (x .after .0) line
+  pub small : x .value < 100000
+  pub digits-are : digits (drop p line) ≡ decimal (x .value)
+  pub after-is : x .after .0 ≡ p + length (decimal (x .value))
+
+pub wrote : (least limit : ℕ) (line : List ℕ) (p : ℕ) (x : Numeral) → read-number least limit line p ≡ Ok x → Wrote line p x
+wrote least limit line p x e =
+    let r = number-ok least limit line p x e in
+    let ds : List ℕ = digits (drop p line) in
+    let w = worth-short (drop p line) (r .short) in
+    let v = r .value in
+    let spelt-so : decimal (worth 0 ds) ≡ ds = decimal-value own ds (digits-digits (drop p line)) (r .some) (r .plain) (omega arith) in
+    let same : ds ≡ decimal (x .value) = sym spelt-so ∙ ap decimal (sym v) in
+    record {
+      is = was-decimal least limit line p x e;
+      small = omega arith;
+      digits-are = same;
+      after-is = ap (λ q. q .0) (r .after) ∙ ap (λ u. p + length u) same;
+    }
+
+-- digits in front of what is no digit
+pub digits-decimal-then : (v : ℕ) (rest : List ℕ) → v < 100000 → digits rest ≡ [] → digits (decimal v ++ rest) ≡ decimal v
+digits-decimal-then v rest small none =
+    let fits : v < 2 ^ 64 = omega arith in digits-append (decimal v) rest (digits-decimal own v fits) none
+
+pub decimal-not-nil : (v : ℕ) → v < 100000 → decimal v ≡ [] → ⊥
+decimal-not-nil v small e =
+    let fits : v < 2 ^ 64 = omega arith in let s = decimal-some v fits in let z = ap length e in omega arith

@@ -7,3 +7,6 @@ pub mod Decimals
 pub mod Soundness
 pub mod Completeness
 pub mod Exactness
+pub mod Stops
+pub mod Begins
+pub mod Parting

@@ -35,7 +35,7 @@ use Rattle.query.proofs.ItemChecks as items
 use Rattle.query.proofs.ItemChecks.{Weighed, then-ok, spaced-ok, item-ok, item-moves}
 use Rattle.query.proofs.LineChecks.{rows, kind-ask, kind-try, kind-witness, kind-none, reading-remark, reading-long, reading-short}
 
-spaced-was :
+pub spaced-was :
     (limit : ℕ) (line : List ℕ) (p : ℕ) (x : Numeral) → read-spaced limit line p ≡ Ok x
     → (drop p line ≡ (32 ∷ decimal (x .value)) ++ drop (x .after .0) line) × (x .value < limit)
 spaced-was limit line p x e =
@@ -173,7 +173,7 @@ module _ (lim : Limits) (few : lim .members ≤ 64) (line : List ℕ) where
   unfolding read-items
   rows-were p ws e = items-were (length line - p) no-weights p ws refl e
 
-of-line-ok : {A : Type 0} (r : Result A ItemFault) (x : A) → of-line r ≡ Ok x → r ≡ Ok x
+pub of-line-ok : {A : Type 0} (r : Result A ItemFault) (x : A) → of-line r ≡ Ok x → r ≡ Ok x
 of-line-ok (Ok y) x e = ap Ok (ok-same _ _ e)
 of-line-ok (Err f) x e = absurd (let z : _≡_ {A = ℕ} 0 1 = cc in omega arith)
 

@@ -3,4 +3,5 @@ pub mod Numbers
 pub mod Items
 pub mod Lines
 pub mod Grammar
+pub mod Shape
 pub mod Laws
