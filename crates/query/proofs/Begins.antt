@@ -1,23 +1,22 @@
 -- Up to the place of an 18 the line begins a line of the grammar. Assumes nothing.
 use mathlib.Core.Path.{_≡_, refl, sym, ap, subst, _∙_}
 use mathlib.Core.List.{List, [], _∷_, _++_, append-assoc}
-use mathlib.Core.Logic.{_⊎_, inl, inr, ⊎-elim}
-use Prim.Native.Nat.{ℕ, zero, suc, _+_, _-_, _≤_, _<_}
+use mathlib.Core.Logic.{_⊎_, inl, inr}
+use Prim.Native.Nat.{ℕ, _+_, _-_, _≤_, _<_}
 use native.Mathlib.Omega.{arith}
-use lib.ListN.{length, take, drop}
+use lib.ListN.{length, drop}
 use Rattle.std.specs.Written.{decimal}
 use Rattle.std.specs.shelf.Lists.{joined, All}
-use Rattle.std.specs.declared.result.Result.the-variants.{Ok, Err}
-use Rattle.std.proofs.shelf.Lists.{append-nil, length-append, take-at}
+use Rattle.std.specs.declared.result.Result.the-variants.{Ok}
+use Rattle.std.proofs.shelf.Lists.{append-nil, length-append}
 use Rattle.query.specs.declared.numbers.Numeral.{Numeral}
 use Rattle.query.specs.declared.items.Limits.{Limits}
 use Rattle.query.specs.declared.items.Item.{Item}
-use Rattle.query.specs.Numbers.{stands-at, read-number}
 use Rattle.query.specs.Items.{read-spaced}
 use Rattle.query.specs.Grammar.{Entry, alone, weighted, text}
 use Rattle.query.specs.Shape.{Short, Shaped, ask, try, witness, remark}
 use Rattle.query.proofs.Bytes.{stands-front}
-use Rattle.query.proofs.Decimals.{Wrote, wrote}
+use Rattle.query.proofs.Decimals.{wrote}
 use Rattle.query.proofs.ItemChecks as items
 use Rattle.query.proofs.ItemChecks.{Weighed, spaced-ok}
 use Rattle.query.proofs.Stops.{SpacedStop, no-space, no-digit, ItemsStop, spaced, no-weight, later, WitnessStop, first, second, not-ended, LineStop, empty, no-kind, in-row, in-witness}

@@ -1,20 +1,18 @@
 -- The checks of a number, from what its reader finds at a place. Assumes nothing.
-use mathlib.Core.Path.{_≡_, refl, sym, ap, subst, _∙_}
+use mathlib.Core.Path.{_≡_, refl, sym, ap, _∙_}
 use mathlib.Core.Bool.{Bool, true, false, cond, _&&_}
-use mathlib.Core.List.{List, [], _∷_, _++_}
+use mathlib.Core.List.{List, [], _∷_}
 use mathlib.Core.Logic.{_⊎_, inl, inr, ⊎-elim}
-use Prim.Native.Nat.{ℕ, zero, suc, _+_, _-_, _*_, _^_, _≤_, _<_}
+use Prim.Native.Nat.{ℕ, _+_, _-_, _≤_, _<_}
 use native.Mathlib.Omega.{arith}
-use borrow.Author.Needs.{needs}
-use lib.Dec.{eqb, ltb, leb}
-use lib.ListN.{length, getD, take, drop, length-drop}
+use lib.Dec.{eqb, ltb}
+use lib.ListN.{length, getD, drop, length-drop}
 use Rattle.std.specs.Text.{asciiDigit}
 use Rattle.std.specs.declared.result.Result.{Result}
 use Rattle.std.specs.declared.result.Result.the-variants.{Ok, Err}
-use Rattle.std.proofs.shelf.Tests.{cases-bool, cases-lt, cond-true, cond-false, and-parts, and-cases, leb-true, ltb-true, ltb-false, eqb-false, and-from, and-left, and-right, eq-eqb, ne-eqb, lt-ltb, le-ltb, le-leb, lt-leb}
+use Rattle.std.proofs.shelf.Tests.{cond-true, cond-false, and-parts, and-cases, leb-true, ltb-true, ltb-false, eqb-false, and-from, and-left, and-right, lt-ltb, le-ltb, le-leb, lt-leb}
 use Rattle.std.proofs.shelf.Ways.{tells}
 use Rattle.query.specs.declared.faults.DigitFault.{DigitFault}
-use Rattle.query.specs.declared.faults.NumberFault.{NumberFault}
 use Rattle.query.specs.declared.faults.NumberFault.the-variants.{NoDigit, LeadingZero, TooManyDigits, OutOfRange}
 use Rattle.query.specs.declared.numbers.Numeral.{Numeral}
 use Rattle.query.specs.Numbers.{place, digit-from, read-digit, digits, worth, ranged, spelt, read-number}

@@ -1,30 +1,28 @@
 -- What spells a request is accepted as it. Assumes nothing.
-use mathlib.Core.Path.{_≡_, refl, sym, ap, subst, _∙_}
-use mathlib.Core.Bool.{Bool, true, false, cond}
+use mathlib.Core.Path.{_≡_, refl, sym, ap, _∙_}
+use mathlib.Core.Bool.{false}
 use mathlib.Core.List.{List, [], _∷_, _++_, append-assoc}
 use mathlib.Core.Logic.{_≢_, _⊎_, inl, inr, ⊎-elim}
-use Prim.Native.Nat.{ℕ, zero, suc, _+_, _-_, _≤_, _<_}
+use Prim.Native.Nat.{ℕ, _+_, _≤_, _<_}
 use native.Mathlib.Omega.{arith}
-use lib.ListN.{length, getD, set, drop, replicate}
+use lib.ListN.{length, set, drop}
 use Rattle.std.specs.Written.{decimal}
 use Rattle.std.specs.shelf.Lists.{joined, All}
 use Rattle.std.specs.declared.option.Option.the-variants.{Some}
-use Rattle.std.specs.declared.result.Result.{Result}
-use Rattle.std.specs.declared.result.Result.the-variants.{Ok, Err}
+use Rattle.std.specs.declared.result.Result.the-variants.{Ok}
 use Rattle.std.proofs.shelf.Lists.{append-nil, drop-at, drop-drop, length-drop, length-append, getD-set-other, getD-replicate, getD-past}
 use Rattle.std.proofs.shelf.Elements.{all-weaker}
 use Rattle.std.proofs.shelf.Tests.{cases-lt}
 use Rattle.field.specs.declared.Element.{Element}
 use Rattle.query.specs.declared.numbers.Numeral.{Numeral}
 use Rattle.query.specs.declared.items.Limits.{Limits}
-use Rattle.query.specs.declared.items.Item.{Item}
 use Rattle.query.specs.declared.lines.Request.{Request}
-use Rattle.query.specs.declared.lines.Request.the-variants.{Ask, Try, Witness, Remark}
-use Rattle.query.specs.Numbers.{place, byte-at, stands-at, digits, read-number}
-use Rattle.query.specs.Items.{code, no-weights, weight-of, of-item, read-spaced, weighed, read-item, read-items}
+use Rattle.query.specs.declared.lines.Request.the-variants.{Ask, Try, Witness}
+use Rattle.query.specs.Numbers.{place, byte-at, stands-at, digits}
+use Rattle.query.specs.Items.{code, no-weights, weight-of, of-item, read-spaced, read-item, read-items}
 use Rattle.query.specs.Lines.{read-witness, reading}
-use Rattle.query.specs.Grammar.{Entry, alone, weighted, member, weight, text, InRange, Apart, Named, with-weights, Spells, ask, try, witness, remark, Accepted}
-use Rattle.query.proofs.Bytes.{front-stands, front-other, front-none, stands-front}
+use Rattle.query.specs.Grammar.{Entry, alone, weighted, member, weight, text, InRange, Named, with-weights, Spells, ask, try, witness, remark, Accepted}
+use Rattle.query.proofs.Bytes.{front-stands, front-other, front-none}
 use Rattle.query.proofs.Decimals.{reads-decimal}
 use Rattle.query.proofs.ItemChecks.{unnamed-zero, spaced-some, item-weighed, weighed-plain, weighed-more, items-last, items-more}
 use Rattle.query.proofs.LineChecks.{row-fine, kind-ask, kind-try, kind-witness, reading-remark, reading-short, witness-fine}

@@ -1,24 +1,22 @@
 -- Numbers in decimal, written and read. Assumes nothing.
-use mathlib.Core.Path.{_≡_, refl, sym, ap, subst, _∙_}
-use mathlib.Core.Bool.{Bool, true, false, cond, _&&_}
+use mathlib.Core.Path.{_≡_, refl, sym, ap, _∙_}
+use mathlib.Core.Bool.{false, cond, _&&_}
 use mathlib.Core.List.{List, [], _∷_, _++_}
-use mathlib.Core.Logic.{_⊎_, inl, inr, ⊎-elim}
-use Prim.Native.Nat.{ℕ, zero, suc, _+_, _-_, _*_, _^_, _≤_, _<_}
+use mathlib.Core.Logic.{⊎-elim}
+use Prim.Native.Nat.{ℕ, zero, suc, _+_, _^_, _≤_, _<_}
 use native.Mathlib.Omega.{arith}
-use lib.Dec.{eqb, ltb, leb}
+use lib.Dec.{eqb, ltb}
 use lib.ListN.{length, getD, take, drop}
-use Rattle.std.specs.Text.{asciiDigit}
 use Rattle.std.specs.Written.{decimal}
-use Rattle.std.specs.declared.result.Result.{Result}
-use Rattle.std.specs.declared.result.Result.the-variants.{Ok, Err}
+use Rattle.std.specs.declared.result.Result.the-variants.{Ok}
 use Rattle.std.proofs.shelf.Lists.{take-append-drop, drop-drop, drop-at}
-use Rattle.std.proofs.shelf.Tests.{cases-lt, cond-false, and-left, and-right, ne-eqb, le-ltb, cases-eq}
+use Rattle.std.proofs.shelf.Tests.{cond-false, and-left, and-right, ne-eqb, le-ltb, cases-eq}
 use Rattle.std.proofs.shelf.Decimals.{digits-decimal, value-decimal, decimal-value, decimal-some, first-decimal, length-decimal-le, decimal-digit}
 use Rattle.query.specs.declared.numbers.Numeral.{Numeral}
-use Rattle.query.specs.Numbers.{place, digits, worth, ranged, spelt, read-number}
+use Rattle.query.specs.Numbers.{place, digits, worth, spelt, read-number}
 use Rattle.query.specs.Laws.{ReadsBack}
 use Rattle.query.proofs.Digits.{own, fixed-parts, digits-digits, take-digits, worth-short}
-use Rattle.query.proofs.Checks.{Read, number-ok, in-range}
+use Rattle.query.proofs.Checks.{number-ok, in-range}
 
 digits-append : (ds rest : List ℕ) → digits ds ≡ ds → digits rest ≡ [] → digits (ds ++ rest) ≡ ds
 digits-append [] rest f e = e

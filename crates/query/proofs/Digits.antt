@@ -1,22 +1,19 @@
 -- The digits at a place of a line, and what they are worth. Assumes nothing.
-use mathlib.Core.Path.{_≡_, refl, sym, ap, subst, _∙_}
-use mathlib.Core.Bool.{Bool, true, false, cond, _&&_}
-use mathlib.Core.List.{List, [], _∷_, _++_}
-use mathlib.Core.Logic.{_⊎_, inl, inr, ⊎-elim}
-use Prim.Native.Nat.{ℕ, zero, suc, _+_, _-_, _*_, _^_, _≤_, _<_}
+use mathlib.Core.Path.{_≡_, refl, sym, ap, _∙_}
+use mathlib.Core.Bool.{Bool, true, false, cond}
+use mathlib.Core.List.{List, [], _∷_}
+use mathlib.Core.Logic.{⊎-elim}
+use Prim.Native.Nat.{ℕ, suc, _+_, _-_, _*_, _≤_, _<_}
 use native.Mathlib.Omega.{arith}
 use borrow.Author.Needs.{needs}
-use lib.Dec.{eqb, ltb, leb}
 use lib.ListN.{length, getD, take, drop}
-use Rattle.std.specs.Text.{asciiDigit, In}
+use Rattle.std.specs.Text.{asciiDigit}
 use Rattle.std.specs.declared.result.Result.the-variants.{Ok, Err}
-use Rattle.std.specs.declared.result.Result.{Result}
 use Rattle.std.specs.Results.{isOk}
 use Rattle.std.proofs.shelf.Lists.{at-drop-more, drop-more, drop-all}
-use Rattle.std.proofs.shelf.Tests.{cases-bool, cases-lt, and-parts, leb-true, leb-false, and-from, le-leb}
-use Rattle.std.proofs.shelf.Ways.{tells}
-use Rattle.std.proofs.shelf.Numerals.{Numerals, TellsDigits, Folds, numerals-by-fold, value-short}
-use Rattle.query.specs.Numbers.{place, digit-from, read-digit, digits, worth}
+use Rattle.std.proofs.shelf.Tests.{cases-bool, cases-lt, and-parts, leb-true, and-from, le-leb}
+use Rattle.std.proofs.shelf.Numerals.{Numerals, TellsDigits, numerals-by-fold, value-short}
+use Rattle.query.specs.Numbers.{read-digit, digits, worth}
 
 same-front : (t : Bool) (x : ℕ) (xs ys : List ℕ) → cond t (x ∷ xs) [] ≡ x ∷ ys → (t ≡ true) × (xs ≡ ys)
 same-front true x xs ys e = (refl, cc)

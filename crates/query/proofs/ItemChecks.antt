@@ -1,12 +1,12 @@
 -- The items of a line, from what their reader finds. Assumes nothing.
 use mathlib.Core.Path.{_≡_, refl, sym, ap, subst, _∙_}
-use mathlib.Core.Bool.{Bool, true, false, cond}
-use mathlib.Core.List.{List, [], _∷_}
-use mathlib.Core.Logic.{_⊎_, inl, inr, ⊎-elim}
+use mathlib.Core.Bool.{true, false, cond}
+use mathlib.Core.List.{List}
+use mathlib.Core.Logic.{⊎-elim}
 use Prim.Native.Nat.{ℕ, zero, suc, _+_, _-_, _≤_, _<_}
 use native.Mathlib.Omega.{arith}
-use lib.Dec.{eqb, ltb}
-use lib.ListN.{length, getD, set, drop}
+use lib.Dec.{eqb}
+use lib.ListN.{length, set}
 use Rattle.std.specs.declared.result.Result.{Result}
 use Rattle.std.specs.declared.result.Result.the-variants.{Ok, Err}
 use Rattle.std.proofs.shelf.Tests.{cases-bool, cases-lt, cond-true, cond-false, eq-eqb, ne-eqb, eqb-true, not-false, not-from-true}
@@ -18,7 +18,7 @@ use Rattle.query.specs.declared.numbers.Numeral.{Numeral}
 use Rattle.query.specs.declared.items.Limits.{Limits}
 use Rattle.query.specs.declared.items.Item.{Item}
 use Rattle.query.specs.declared.items.Weights.{Weights}
-use Rattle.query.specs.Numbers.{place, byte-at, is-byte, stands-at, read-number}
+use Rattle.query.specs.Numbers.{place, is-byte, stands-at, read-number}
 use Rattle.query.specs.Items.{code, weight-of, names, then, of-item, read-spaced, weighed, read-item, items-in, read-items}
 use Rattle.query.proofs.Bytes.{byte-past}
 use Rattle.query.proofs.Checks.{past-fault, before-fault, ok-same, number-ok, number-moves}

@@ -10,3 +10,4 @@ pub mod Exactness
 pub mod Stops
 pub mod Begins
 pub mod Parting
+pub mod Worked

@@ -2,8 +2,8 @@
 use mathlib.Core.Path.{_≡_, refl, sym, ap, subst, _∙_}
 use mathlib.Core.Bool.{Bool, true, false, cond}
 use mathlib.Core.List.{List, [], _∷_, _++_, append-assoc}
-use mathlib.Core.Logic.{_⊎_, inl, inr, ⊎-elim}
-use Prim.Native.Nat.{ℕ, zero, suc, _+_, _-_, _≤_, _<_}
+use mathlib.Core.Logic.{_⊎_, inl, ⊎-elim}
+use Prim.Native.Nat.{ℕ, suc, _+_, _≤_, _<_}
 use native.Mathlib.Omega.{arith}
 use lib.ListN.{length, getD, take, drop}
 use Rattle.std.specs.Text.{asciiDigit}
@@ -11,7 +11,7 @@ use Rattle.std.specs.Written.{decimal}
 use Rattle.std.specs.shelf.Lists.{joined, All}
 use Rattle.std.specs.declared.option.Option.the-variants.{Some, None}
 use Rattle.std.specs.declared.result.Result.{Result}
-use Rattle.std.specs.declared.result.Result.the-variants.{Ok, Err}
+use Rattle.std.specs.declared.result.Result.the-variants.{Ok}
 use Rattle.std.proofs.shelf.Lists.{append-nil, drop-drop, length-append, length-take-le, take-at, take-append-drop, getD-append-left}
 use Rattle.std.proofs.shelf.Tests.{cases-bool}
 use Rattle.query.specs.declared.faults.LineFault.{LineFault}
@@ -23,7 +23,7 @@ use Rattle.query.specs.Numbers.{head, is-byte, byte-at, stands-at, digits, rea
 use Rattle.query.specs.Items.{read-spaced}
 use Rattle.query.specs.Lines.{reading}
 use Rattle.query.specs.Grammar.{Entry, alone, weighted, text}
-use Rattle.query.specs.Shape.{Short, Shaped, ask, try, witness, remark, PartsAt}
+use Rattle.query.specs.Shape.{Short, Shaped, ask, try, witness, remark}
 use Rattle.query.specs.Laws.{Parts}
 use Rattle.query.proofs.Bytes.{byte-within, front-stands}
 use Rattle.query.proofs.Decimals.{wrote, digits-decimal-then, decimal-not-nil}

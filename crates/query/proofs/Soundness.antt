@@ -1,12 +1,11 @@
 -- What is accepted spells its request. Assumes nothing.
 use mathlib.Core.Path.{_≡_, refl, sym, ap, subst, _∙_}
-use mathlib.Core.Bool.{Bool, true, false, cond}
 use mathlib.Core.List.{List, [], _∷_, _++_, append-assoc}
 use mathlib.Core.Logic.{_≢_, _⊎_, inl, inr, ⊎-elim}
 use Prim.Native.Nat.{ℕ, zero, suc, _+_, _-_, _≤_, _<_}
 use native.Mathlib.Omega.{arith}
-use lib.Dec.{eqb, ltb}
-use lib.ListN.{length, getD, set, drop}
+use lib.Dec.{eqb}
+use lib.ListN.{length, set, drop}
 use Rattle.std.specs.Written.{decimal}
 use Rattle.std.specs.shelf.Lists.{joined, All}
 use Rattle.std.specs.declared.option.Option.the-variants.{Some}
@@ -17,17 +16,15 @@ use Rattle.std.proofs.shelf.Elements.{all-weaker}
 use Rattle.std.proofs.shelf.Tests.{cases-bool, cases-eq, cases-lt, eqb-true, ltb-false, cond-true, cond-false}
 use Rattle.field.specs.declared.Element.{Element}
 use Rattle.query.specs.declared.faults.ItemFault.{ItemFault}
-use Rattle.query.specs.declared.faults.LineFault.{LineFault}
 use Rattle.query.specs.declared.numbers.Numeral.{Numeral}
 use Rattle.query.specs.declared.items.Limits.{Limits}
 use Rattle.query.specs.declared.items.Item.{Item}
 use Rattle.query.specs.declared.items.Weights.{Weights}
 use Rattle.query.specs.declared.lines.Request.{Request}
 use Rattle.query.specs.declared.lines.Request.the-variants.{Ask, Try, Witness, Remark}
-use Rattle.query.specs.Numbers.{place, byte-at, stands-at, read-number}
-use Rattle.query.specs.Items.{code, no-weights, weight-of, then, read-spaced, read-item, items-in, read-items}
+use Rattle.query.specs.Items.{code, no-weights, weight-of, read-spaced, items-in, read-items}
 use Rattle.query.specs.Lines.{of-line, read-witness, by-kind, reading}
-use Rattle.query.specs.Grammar.{Entry, alone, weighted, member, weight, text, InRange, Apart, Named, with-weights, Spells, ask, try, witness, remark, Accepted}
+use Rattle.query.specs.Grammar.{Entry, alone, weighted, member, weight, text, InRange, Named, with-weights, Spells, ask, try, witness, remark, Accepted}
 use Rattle.query.proofs.Bytes.{stands-front}
 use Rattle.query.proofs.Checks.{ok-same, past-fault, number-ok}
 use Rattle.query.proofs.Decimals.{was-decimal}

@@ -6,12 +6,10 @@ use mathlib.Core.Logic.{_⊎_, inl, inr}
 use Prim.Native.Nat.{ℕ, zero, suc, _+_, _-_, _≤_, _<_}
 use native.Mathlib.Omega.{arith}
 use lib.Dec.{eqb, ltb, leb}
-use lib.ListN.{length, set, drop}
-use Rattle.std.specs.declared.option.Option.the-variants.{Some, None}
+use lib.ListN.{length, drop}
 use Rattle.std.specs.declared.result.Result.{Result}
 use Rattle.std.specs.declared.result.Result.the-variants.{Ok, Err}
-use Rattle.std.proofs.shelf.Tests.{cases-eq, cases-lt, eqb-false, ltb-true}
-use Rattle.refusal.specs.declared.BytePlace.{BytePlace}
+use Rattle.std.proofs.shelf.Tests.{cases-eq, eqb-false, ltb-true}
 use Rattle.refusal.specs.declared.Refusal.{Refusal}
 use Rattle.refusal.specs.declared.Refusal.the-variants.{UnexpectedByte, BadNumber, MemberRepeated, LineTooLong}
 use Rattle.field.specs.declared.Element.{Element}
@@ -20,16 +18,16 @@ use Rattle.query.specs.declared.faults.NumberFault.the-variants.{LeadingZero, 
 use Rattle.query.specs.declared.faults.ItemFault.{ItemFault}
 use Rattle.query.specs.declared.faults.ItemFault.the-variants.{Number, Repeated}
 use Rattle.query.specs.declared.faults.LineFault.{LineFault}
-use Rattle.query.specs.declared.faults.LineFault.the-variants.{TooLong, NoKind, Item, NotEnded}
+use Rattle.query.specs.declared.faults.LineFault.the-variants.{TooLong, Item}
 use Rattle.query.specs.declared.numbers.Numeral.{Numeral}
 use Rattle.query.specs.declared.items.Limits.{Limits}
 use Rattle.query.specs.declared.items.Item.{Item as ItemOf}
 use Rattle.query.specs.declared.items.Weights.{Weights}
 use Rattle.query.specs.declared.lines.Request.{Request}
-use Rattle.query.specs.declared.lines.Request.the-variants.{Ask, Try, Witness, Remark}
+use Rattle.query.specs.declared.lines.Request.the-variants.{Ask, Try}
 use Rattle.query.specs.Refusals.{number-refusal, item-refusal, line-refusal}
-use Rattle.query.specs.Numbers.{place, is-byte, byte-at, stands-at, digits, worth, ranged, spelt, read-number}
-use Rattle.query.specs.Items.{code, no-weights, names, then, of-item, read-spaced, weighed, read-item, items-in, read-items}
+use Rattle.query.specs.Numbers.{place, is-byte, stands-at, digits, worth, ranged, spelt, read-number}
+use Rattle.query.specs.Items.{no-weights, names, then, of-item, read-spaced, weighed, read-item, items-in, read-items}
 use Rattle.query.specs.Lines.{of-line, read-witness, by-kind, reading}
 use Rattle.query.proofs.Bytes.{byte-past}
 use Rattle.query.proofs.ItemChecks.{Weighed, item-ok, item-moves}

@@ -3,7 +3,7 @@
 --   read-item lim row line p         the item at a place, of a member that the row does not name
 --   read-items lim row line p        the row with the weights of all items from a place on to the line's end
 -- Assumes nothing.
-use mathlib.Core.Bool.{Bool, true, false, cond, not}
+use mathlib.Core.Bool.{Bool, cond, not}
 use mathlib.Core.List.{List}
 use Prim.Native.Nat.{ℕ, zero, suc, _+_, _-_}
 use lib.Dec.{eqb}

@@ -5,3 +5,4 @@ pub mod Lines
 pub mod Grammar
 pub mod Shape
 pub mod Laws
+pub mod Worked

@@ -3,7 +3,7 @@
 --   limits M n                   the numbers in range, over a field and n members
 --   reading lim line             what the line wants, or its first fault
 -- Assumes nothing.
-use mathlib.Core.Bool.{Bool, true, false, cond}
+use mathlib.Core.Bool.{cond}
 use mathlib.Core.List.{List, [], _∷_}
 use Prim.Native.Nat.{ℕ, min}
 use lib.Dec.{eqb, ltb}
@@ -15,7 +15,6 @@ use Rattle.query.specs.declared.faults.ItemFault.{ItemFault}
 use Rattle.query.specs.declared.faults.LineFault.{LineFault}
 use Rattle.query.specs.declared.faults.LineFault.the-variants.{TooLong, NoKind, Item, NotEnded}
 use Rattle.query.specs.declared.items.Limits.{Limits}
-use Rattle.query.specs.declared.items.Weights.{Weights}
 use Rattle.query.specs.declared.lines.Request.{Request}
 use Rattle.query.specs.declared.lines.Request.the-variants.{Ask, Try, Witness, Remark}
 use Rattle.query.specs.Items.{code, then, no-weights, read-spaced, read-items}

@@ -5,7 +5,7 @@
 --   worth 0 ds                         what the digits are worth
 --   read-number least limit line p     the number at a place, from `least` up and below `limit`, or its first fault
 -- Assumes nothing.
-use mathlib.Core.Bool.{Bool, true, false, cond, _&&_}
+use mathlib.Core.Bool.{Bool, false, cond, _&&_}
 use mathlib.Core.List.{List, [], _∷_}
 use Prim.Native.Nat.{ℕ, _+_, _-_, _*_}
 use lib.Dec.{eqb, ltb, leb}

@@ -3,7 +3,7 @@
 --   PartsAt line p        up to the place the line begins a line of the grammar, and with its next byte, or its end, no more
 -- Assumes nothing.
 use mathlib.Core.Path.{_≡_}
-use mathlib.Core.List.{List, [], _∷_, _++_}
+use mathlib.Core.List.{List, _∷_, _++_}
 use Prim.Native.Nat.{ℕ, _+_, _≤_, _<_}
 use lib.ListN.{length, take}
 use Rattle.std.specs.Written.{decimal}

@@ -12,5 +12,6 @@ pub use faults::LineFault;
 pub use faults::NumberFault;
 pub use items::Weights;
 pub use laws::decimals_read_back;
+pub use laws::worked_faults;
 pub use lines::Request;
 pub use lines::read_line;

@@ -1,34 +1,32 @@
-use mathlib.Core.Path.{_≡_, refl, sym, ap, _∙_}
-use Prim.Native.Nat.{ℕ, _+_, _-_, _*_, _≤_, _<_}
+use mathlib.Core.Path.{sym, _∙_}
 use native.Mathlib.Omega.{arith}
 use borrow.Author.Needs.{needs}
 use Rattle.std.proofs.shelf.Results.{err-from-errBy}
-use lib.ListN.{length}
 use Rattle.std.proofs.shelf.Lists.{length-set}
 use Rattle.query.proofs.ItemChecks.{item-moves, items-fault, items-last, items-more}
 use Rattle.query.proofs.items.read_items.Needs as need
 
-moves :
-    (c : need.After-weights-in-loop-item·1)
-    → (c .loop-item .at .0 < c .in-Continue-item .item .after .0)
-    × (c .in-Continue-item .item .after .0 ≤ length (c .args .line .now))
-    × (c .in-Continue-item .item .member .0 < c .args .limits .members)
-moves c =
-    item-moves (c .args .limits) (c .loop-item .weights .0) (c .args .line .now) (c .loop-item .at .0) (c .in-Continue-item .item)
-    (sym (c .read-item .ensures) ∙ c .in-Continue-item .was tt)
-
 pub returns-in-Break-item : need.returns-in-Break-item
 returns-in-Break-item c =
     let p = err-from-errBy (c .from-residual .result) (c .from-residual .ensures .1) in
-    rw (p .1, p .2)
-    (sym (items-fault (c .args .limits) (c .loop-item .weights .0) (c .args .line .now) (c .loop-item .at .0) _
-    (sym (c .read-item .ensures) ∙ c .in-Break-item .was tt)) ∙ c .loop-item .inv .0)
+    let e =
+    items-fault (c .args .limits) (c .loop-item .weights .0) (c .args .line .now) (c .loop-item .at .0) _
+    (sym (c .read-item .ensures) ∙ c .in-Break-item .was tt) in
+    rw (p .1, p .2) (sym e ∙ c .loop-item .inv .0)
 
 pub offset-weights-item : need.offset-weights-item
-offset-weights-item c = let m = moves c .2 in let few = c .pre in search needs
+offset-weights-item c =
+    let m =
+    item-moves (c .args .limits) (c .loop-item .weights .0) (c .args .line .now) (c .loop-item .at .0) (c .in-Continue-item .item)
+    (sym (c .read-item .ensures) ∙ c .in-Continue-item .was tt) .2 in
+    let few = c .pre in search needs
 
 pub index-weights-item : need.index-weights-item
-index-weights-item c = let m = moves c .2 in let few = c .pre in omega arith
+index-weights-item c =
+    let m =
+    item-moves (c .args .limits) (c .loop-item .weights .0) (c .args .line .now) (c .loop-item .at .0) (c .in-Continue-item .item)
+    (sym (c .read-item .ensures) ∙ c .in-Continue-item .was tt) .2 in
+    let few = c .pre in omega arith
 
 pub returns-then-at-line : need.returns-then-at-line
 returns-then-at-line c =

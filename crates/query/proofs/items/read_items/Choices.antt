@@ -1,5 +1,5 @@
 use mathlib.Core.Path.{_≡_}
-use Prim.Native.Nat.{_-_, _≤_}
+use Prim.Native.Nat.{_-_}
 use lib.ListN.{length}
 use Rattle.query.specs.Items.{read-items, no-weights}
 use Rattle.query.proofs.items.read_items.Given as given

@@ -1,15 +1,7 @@
-use mathlib.Core.Path.{_≡_, refl, sym, ap, _∙_}
-use Prim.Native.Nat.{ℕ, _+_, _-_, _*_, _≤_, _<_}
+use mathlib.Core.Path.{sym, _∙_}
 use native.Mathlib.Omega.{arith}
-use borrow.Author.Needs.{needs}
 use Rattle.std.proofs.shelf.Results.{err-from-errBy}
-use mathlib.Core.List.{List}
-use mathlib.Core.Logic.{_⊎_, ⊎-elim}
-use lib.ListN.{length, getD}
-use Rattle.std.specs.declared.result.Result.{Result}
-use Rattle.std.specs.declared.result.Result.the-variants.{Ok, Err}
-use Rattle.query.specs.declared.lines.Request.{Request}
-use Rattle.query.specs.declared.lines.Request.the-variants.{Ask, Try, Witness, Remark}
+use Rattle.query.specs.declared.lines.Request.the-variants.{Ask, Try}
 use Rattle.query.proofs.LineChecks.{reading-empty, reading-remark, reading-long, reading-kind, row-fault, row-fine, kind-ask, kind-try, kind-witness, kind-none}
 use Rattle.query.proofs.lines.read_within.Needs as need
 

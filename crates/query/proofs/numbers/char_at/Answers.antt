@@ -1,4 +1,4 @@
-use mathlib.Core.Path.{_≡_, refl, sym, ap, _∙_}
+use mathlib.Core.Path.{sym, ap, _∙_}
 use Rattle.std.specs.declared.option.Option.the-variants.{Some}
 use Rattle.query.proofs.Bytes.{byte-within, byte-past}
 use Rattle.query.proofs.numbers.char_at.Needs as need

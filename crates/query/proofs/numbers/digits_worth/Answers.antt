@@ -1,8 +1,8 @@
-use mathlib.Core.Path.{_≡_, refl, sym, ap, _∙_}
-use Prim.Native.Nat.{ℕ, _+_, _-_, _*_, _≤_, _<_}
+use mathlib.Core.Path.{sym, ap, _∙_}
+use Prim.Native.Nat.{_+_, _*_, _<_}
 use native.Mathlib.Omega.{arith}
 use borrow.Author.Needs.{needs}
-use lib.ListN.{length, getD, drop}
+use lib.ListN.{drop}
 use Rattle.query.specs.Numbers.{worth}
 use Rattle.std.proofs.shelf.Lists.{at-drop-all}
 use Rattle.query.proofs.Digits.{digit-here, fixed-next, worth-next, worth-room}

@@ -1,13 +1,12 @@
-use mathlib.Core.Path.{_≡_, refl, sym, ap, _∙_}
-use mathlib.Core.Bool.{Bool, true, false, _&&_}
+use mathlib.Core.Path.{_≡_, sym, ap, _∙_}
+use mathlib.Core.Bool.{Bool, _&&_}
 use mathlib.Core.List.{List}
-use Prim.Native.Nat.{ℕ, _+_, _-_, _*_, _≤_, _<_}
+use Prim.Native.Nat.{ℕ, _+_, _-_, _≤_}
 use native.Mathlib.Omega.{arith}
 use borrow.Author.Needs.{needs}
 use lib.Dec.{eqb, ltb}
 use lib.ListN.{length, take, drop}
-use Rattle.std.specs.declared.result.Result.the-variants.{Ok, Err}
-use Rattle.query.specs.Numbers.{digits, worth, read-digit, read-number, ranged, place}
+use Rattle.query.specs.Numbers.{digits, worth, read-digit}
 use Rattle.std.proofs.shelf.Results.{err-from-errBy}
 use Rattle.query.proofs.Digits.{digits-digits, take-digits, worth-short}
 use Rattle.query.proofs.Checks.{number-none, number-zero, number-long, number-within, number-out, number-in}
