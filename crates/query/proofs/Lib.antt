@@ -1,0 +1,13 @@
+pub mod Bytes
+pub mod Digits
+pub mod Checks
+pub mod ItemChecks
+pub mod LineChecks
+pub mod Decimals
+pub mod Soundness
+pub mod Completeness
+pub mod Exactness
+pub mod Stops
+pub mod Begins
+pub mod Parting
+pub mod Worked
