@@ -15,16 +15,11 @@ use Rattle.field.specs.Sums.{Vector, weights-of}
 use Rattle.field.specs.declared.Element.{Element}
 use Rattle.server.specs.Checks.{Lowest}
 use Rattle.echelon.specs.Reduced.{Pivoted}
-use Rattle.record.specs.Checks.{RowCheck, StrayWeight, wrong-length, not-an-element, none-named, accepted}
+use Rattle.record.specs.Checks.{RowCheck}
+use Rattle.history.proofs.Checked.{row-check-apart}
 use Rattle.record.specs.Judged.{Judged, Admitted, PinnedWith, Adds, given-row, pins, bad-row, no-figure, kept, discloses, joined}
 use Rattle.record.specs.declared.judge.Judgement.the-variants.{Pinning}
 use Rattle.record.specs.declared.judge.Admission.{Admission}
-
-pub passed-once : (M : FieldModel) (n : ℕ) (ws : List Element) (e : Refusal) → RowCheck M n ws (Some e) → RowCheck M n ws None → ⊥
-passed-once M n ws e (wrong-length ne) (accepted len codes named) = ne len
-passed-once M n ws e (not-an-element len₁ m low) (accepted len codes named) =
-    let within = codes m (omega (arith, low .holds .0)) in omega (arith, low .holds .1)
-passed-once M n ws e (none-named len₁ codes₁ none) (accepted len codes named) = named none
 
 pub pinned-lowest : (M : FieldModel) (n : ℕ) (rec : List Pivoted) (r : Vector) (i : Member) → Judged M n rec r (Pinning i) → Lowest (PinnedWith M n rec r) (i .0)
 pinned-lowest M n rec r i (pins not j low) = low
@@ -33,7 +28,7 @@ pub admit-succeeds :
     (M : FieldModel) (n : ℕ) (rec : List Pivoted) (ws : List Element) (f : ℕ) (rec′ : List Pivoted) (r : Result Admission Refusal)
     → Admitted M n rec ws f rec′ r → RowCheck M n ws None → f < M .size → ((i : ℕ) → PinnedWith M n rec (weights-of ws) i → ⊥)
     → (isOk r ≡ true) × Adds M n rec (given-row ws f) rec′
-admit-succeeds M n rec ws f rec′ r (bad-row e fails same) passed small free = absurd (passed-once M n ws e fails passed)
+admit-succeeds M n rec ws f rec′ r (bad-row e fails same) passed small free = absurd (row-check-apart M n ws e passed fails)
 admit-succeeds M n rec ws f rec′ r (no-figure ok large same) passed small free = absurd (omega arith)
 admit-succeeds M n rec ws f rec′ r (kept ok figure fixes same adds) passed small free = (refl, adds)
 admit-succeeds M n rec ws f rec′ r (discloses ok figure i judged same) passed small free =

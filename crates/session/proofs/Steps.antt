@@ -23,7 +23,6 @@ use Rattle.server.specs.Tables.{value-at, codes}
 use Rattle.echelon.specs.Rows.{Figured, rows-of, RowsCodes, Pins, Fixes}
 use Rattle.echelon.specs.Reduced.{Pivoted, at, all-figured, Alone, Reduced, ReducedForm}
 use Rattle.echelon.specs.Witness.{Witness}
-use Rattle.echelon.proofs.Forms.{form-agrees}
 use Rattle.echelon.proofs.Tables.{pinned-alone}
 use Rattle.record.specs.Checks.{RowCheck, WitnessCheck}
 use Rattle.record.specs.Shapes.{NoneAlone}
@@ -34,6 +33,7 @@ use Rattle.record.specs.declared.judge.Judgement.the-variants.{Pinning}
 use Rattle.refusal.specs.declared.Member.{Member}
 use Rattle.record.specs.Records.{rec-of}
 use Rattle.record.proofs.Verdict.{row-codes}
+use Rattle.history.proofs.ByRecord.{pinned-with, lowest-pinned-by}
 use Rattle.history.specs.Events as events
 use Rattle.history.specs.Events.{Start, Event, Call, Reply, submits, answers, withdraws, witnesses, permits, gives, takes-back, fills, refuses, refused, issued, open-row, open-after, given}
 use Rattle.history.specs.Law as law
@@ -58,19 +58,6 @@ pub open-some :
     → (q : events.OpenRow) × (o ≡ Some q) × (p .permit ≡ q .permit) × (take n (p .weights) ≡ q .weights)
 open-some n p None same = absurd same
 open-some n p (Some q) same = (q, refl, same .0, same .1)
-
--- what is pinned with the rows given is pinned with the record's rows, and the other way round
-module _
-    (M : FieldModel) (L : FieldLaws M) (n : ℕ) (rows : List Figured) (rec : List Pivoted) (G : ReducedForm M n rows rec)
-    (codes : RowsCodes M n (rows-of rows)) (ws : List Element) where
-  pub pinned-by-record : (i : ℕ) → PinnedBy M n rows ws i → PinnedWith M n rec (weights-of ws) i
-  pinned-by-record i (h, pins) = (h, λ t u ct cu agree. pins t u ct cu (agree .0, form-agrees M L n rows rec G codes t u ct cu .1 (agree .1)))
-
-  pub pinned-by-given : (i : ℕ) → PinnedWith M n rec (weights-of ws) i → PinnedBy M n rows ws i
-  pinned-by-given i (h, pins) = (h, λ t u ct cu agree. pins t u ct cu (agree .0, form-agrees M L n rows rec G codes t u ct cu .0 (agree .1)))
-
-  pub lowest-by-given : (i : ℕ) → Lowest (PinnedWith M n rec (weights-of ws)) i → Lowest (PinnedBy M n rows ws) i
-  lowest-by-given i low = record { holds = pinned-by-given i (low .holds); none-below = λ k h p. low .none-below k h (pinned-by-record k p) }
 
 -- a row that is fixed already pins nobody
 pub fixed-pins-nobody :
@@ -112,7 +99,7 @@ module _ {S V : Type 0} (M : FieldModel) (L : FieldLaws M) (T : List ℕ) where
   granted-step x x′ s h ws p H none few passed free rec-same count pending permit weights =
       let ready : Ready s h = record { none-open = none; left = subst (λ (k : ℕ). k < 65535) (H .issued-is) few } in
       let not-pinned : (i : ℕ) → PinnedBy M (length T) (given s h) ws i → ⊥ =
-      λ i pinned. free i (pinned-by-record M L (length T) (given s h) (rec-of (x .record)) (H .form) (H .codes) ws i pinned) in
+      λ i pinned. free i (pinned-with M L (length T) (given s h) (H .codes) (rec-of (x .record)) (H .form) ws i pinned) in
       let due : Due M (length T) (value-at T) s h (submits ws) (permits (x .issued + 1)) =
       subst (λ (k : ℕ). Due M (length T) (value-at T) s h (submits ws) (permits (k + 1))) (sym (H .issued-is)) (law.granted ws ready passed not-pinned) in (
         due,
@@ -261,7 +248,7 @@ module _ {S V : Type 0} (M : FieldModel) (L : FieldLaws M) (T : List ℕ) (x : S
         → Steps M T x (submits ws) (refused (Discloses (OfMember (record { 0 = i })))) x
     submit-disclosing-steps i passed low =
         refused-steps M L T x (submits ws) (Discloses (OfMember (record { 0 = i })))
-        (λ s h H. law.discloses ws i (ready s h H) passed (lowest-by-given M L (length T) (given s h) (rec-of (x .record)) (H .form) (H .codes) ws i low))
+        (λ s h H. law.discloses ws i (ready s h H) passed (lowest-pinned-by M L (length T) (given s h) (H .codes) (rec-of (x .record)) (H .form) ws i low))
 
     pub granted-steps :
         (x′ : Session S V) (p : OpenRow) → RowCheck M (length T) ws None

@@ -8,7 +8,8 @@ use Rattle.echelon.specs.Reduced.{Pivoted, figured, at, ReducedForm}
 use Rattle.record.specs.Rows.{CodedRow}
 use Rattle.record.specs.Records.{rec-of}
 use Rattle.history.specs.Law.{begins}
-use Rattle.session.proofs.Begins.{new-sane, empty-form, table-count}
+use Rattle.history.proofs.Facts.{new-sane}
+use Rattle.session.proofs.Begins.{empty-form, table-count}
 use Rattle.session.proofs.session.Session.new.Needs as need
 
 pub returns : need.returns
