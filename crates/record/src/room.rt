@@ -3,6 +3,7 @@ ghost use mathlib.Core.Path.{_≡_};
 ghost use mathlib.Core.List.{[]};
 ghost use Prim.Native.Nat.{_≤_};
 ghost use Rattle.std.specs.Of.Vec.{vec-items, vec-cap};
+ghost use Rattle.std.specs.Vec.{made};
 use crate::rows::RecordRow;
 use std::alloc::AllocError;
 use std::alloc::Global;
@@ -17,7 +18,9 @@ pub struct Room {
 
 impl Room {
     // Fails only for want of memory.
-    pub fn new(heap: Global) -> Result<Room, AllocError> {
+    pub fn new(heap: Global) -> Result<Room, AllocError>
+        ensures { λ r. ⌜ made r (λ m. (vec-items (m .rows) ≡ []) × (64 ≤ vec-cap (m .rows))) ⌝ }
+    {
         let mut rows = Vec::new(heap);
         rows.reserve(64)?;
         Ok(Room { rows })
