@@ -1,3 +1,5 @@
 pub mod Bits
 pub mod Elements
 pub mod Weights
+pub mod Again
+pub mod Back
