@@ -31,10 +31,18 @@ test-of false = refl
 bit-is : (x : ℕ) → x < 2 → cond (eqb x 1) 1 0 ≡ x
 bit-is x h = grind (arith, tells)
 
-pow-next : (k : ℕ) → 2 ^ (k + 1) ≡ 2 * 2 ^ k
+pub pow-next : (k : ℕ) → 2 ^ (k + 1) ≡ 2 * 2 ^ k
 pow-next k = let split = pow-add 2 k 1 in omega arith
 
 module _ (stands : ℕ → Bool) where
+  pub bits-stands : (b : ℕ) → stands b ≡ true → bits stands (b + 1) ≡ bits stands b + 2 ^ b
+  unfolding bits
+  bits-stands b e = ap (bits stands) (add-one b) ∙ ap (λ t. bits stands b + cond t (2 ^ b) 0) e
+
+  pub bits-clear : (b : ℕ) → stands b ≡ false → bits stands (b + 1) ≡ bits stands b
+  unfolding bits
+  bits-clear b e = ap (bits stands) (add-one b) ∙ ap (λ t. bits stands b + cond t (2 ^ b) 0) e ∙ add-zero (bits stands b)
+
   bits-more : (b : ℕ) → bits stands (b + 1) ≡ cond (stands b) 1 0 * 2 ^ b + bits stands b
   unfolding bits
   bits-more b =
@@ -98,7 +106,7 @@ module _ (w : Vector) (n : ℕ) where
   unfolding map-bytes
   map-bytes-length = length-map-counting (map-byte w) 0 (map-length n)
 
-  map-bytes-at : (k : ℕ) → k < map-length n → getD (map-bytes w n) k 0 ≡ map-byte w k
+  pub map-bytes-at : (k : ℕ) → k < map-length n → getD (map-bytes w n) k 0 ≡ map-byte w k
   unfolding map-bytes
   map-bytes-at k h = getD-map-counting (map-byte w) 0 (map-length n) k k 0 h (zero-add k)
 

@@ -18,6 +18,13 @@ take-parts a b xs =
     ∙ ap₂ (λ ys zs. ys ++ zs) (take-take a (a + b) xs (omega arith)) (drop-take a b xs)
 
 module _ (M : FieldModel) where
+  pub narrow : width M ≤ 2
+  narrow = go (leb (M .size) 256)
+    where
+      go : (b : Bool) → by-width b 1 2 ≤ 2
+      go true = omega arith
+      go false = omega arith
+
   pub written-length : (e : ℕ) → length (written M e) ≡ width M
   written-length e = go (leb (M .size) 256)
     where

@@ -1,5 +1,6 @@
 pub mod Bits
 pub mod Elements
 pub mod Weights
+pub mod Buffers
 pub mod Again
 pub mod Back

@@ -11,7 +11,7 @@ use lib.Dec.{leb}
 use lib.ListN.{length, getD, take, drop}
 use Rattle.std.specs.Orderings.{Decides}
 use Rattle.std.proofs.shelf.Lists.{append-nil, append-assoc, length-append, drop-drop}
-use Rattle.std.proofs.shelf.Tests.{cases-bool, cases-eq}
+use Rattle.std.proofs.shelf.Tests.{cases-bool, cases-eq, eq-eqb, ne-eqb}
 use Rattle.std.proofs.shelf.Ways.{decides-below-and, decides-like, same-from-decides, tells}
 use Rattle.field.specs.Model.{FieldModel}
 use Rattle.field.specs.Bytes.{width, written, code-at}
@@ -31,6 +31,12 @@ plain-same v w n same =
     same-from-decides (plain v n) (plain w n) (plain-tells v n)
     (decides-like (plain w n) (λ h m l. rw (same m l) (h m l)) (λ h m l. rw (sym (same m l)) (h m l)) (plain-tells w n))
 
+pub stands : (w : Vector) (m : ℕ) → (w m ≡ 0 → ⊥) → names w m ≡ true
+stands w m other = ap not (ne-eqb (w m) 0 other)
+
+pub clear : (w : Vector) (m : ℕ) → w m ≡ 0 → names w m ≡ false
+clear w m e = ap not (eq-eqb (w m) 0 e)
+
 module _ (M : FieldModel) (w : Vector) where
   weights-more : (m : ℕ) → weight-bytes M w (m + 1) ≡ weight-bytes M w m ++ cond (names w m) (written M (w m)) []
   unfolding weight-bytes
@@ -43,9 +49,24 @@ module _ (M : FieldModel) (w : Vector) where
   weights-unnamed m e =
       weights-more m ∙ ap (λ t. weight-bytes M w m ++ cond t (written M (w m)) []) e ∙ append-nil (weight-bytes M w m)
 
+  pub length-named : (m : ℕ) → names w m ≡ true → length (weight-bytes M w (m + 1)) ≡ length (weight-bytes M w m) + width M
+  length-named m e =
+      ap length (weights-named m e) ∙ length-append (weight-bytes M w m) (written M (w m))
+      ∙ ap (λ k. length (weight-bytes M w m) + k) (written-length M (w m))
+
   pub weights-none : weight-bytes M w 0 ≡ []
   unfolding weight-bytes
   weights-none = refl
+
+  -- more members take no fewer bytes
+  pub weights-rise : (m j : ℕ) → length (weight-bytes M w m) ≤ length (weight-bytes M w (m + j))
+  weights-rise m zero = let same = ap (λ i. length (weight-bytes M w i)) (add-zero m) in omega arith
+  weights-rise m (suc j) =
+      let next : m + suc j ≡ m + j + 1 = omega arith in
+      let same = ap (λ i. length (weight-bytes M w i)) next in
+      let more = ap length (weights-more (m + j)) ∙ length-append (weight-bytes M w (m + j)) (cond (names w (m + j)) (written M (w (m + j))) []) in
+      let before = weights-rise m j in
+      omega arith
 
   -- the last of the weights, read back
   weight-last :
@@ -85,8 +106,7 @@ module _ (M : FieldModel) (w : Vector) where
         ap (λ i. length (weight-bytes M w i)) (sym next)
         ∙ ⊎-elim
         (λ e.
-        ap length (weights-named m (bit ∙ e)) ∙ length-append (weight-bytes M w m) (written M (w m))
-        ∙ ap₂ (λ x y. x + y) before (written-length M (w m))
+        length-named m (bit ∙ e) ∙ ap (λ k. k + width M) before
         ∙ sym (ap (λ k. width M * k) (below-named map m e) ∙ mul-add (width M) (named-below map m) 1 ∙ ap (λ k. width M * named-below map m + k) (mul-one (width M))))
         (λ e. ap length (weights-unnamed m (bit ∙ e)) ∙ before ∙ sym (ap (λ k. width M * k) (below-unnamed map m e)))
         (cases-bool (named map m))
