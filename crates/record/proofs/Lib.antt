@@ -6,3 +6,6 @@ pub mod Join
 pub mod Shaped
 pub mod Judging
 pub mod Standing
+pub mod Verdict
+pub mod Admitting
+pub mod Witnessing

@@ -23,8 +23,8 @@ alone-same n w v i h same alone = (λ z. alone .0 (same i h ∙ z), λ m b ne. s
 
 -- the same members stand alone beside equal rows
 alone-with-same :
-  (M : FieldModel) (n : ℕ) (rec : List Pivoted) (e e₁ : Pivoted) → Reduced M n rec → e .pivot < n → SamePivoted n e e₁
-  → (i : ℕ) → AloneWith M n rec e i → AloneWith M n rec e₁ i
+    (M : FieldModel) (n : ℕ) (rec : List Pivoted) (e e₁ : Pivoted) → Reduced M n rec → e .pivot < n → SamePivoted n e e₁
+    → (i : ℕ) → AloneWith M n rec e i → AloneWith M n rec e₁ i
 alone-with-same M n rec e e₁ R below same i (inl (a, h, pivot, alone)) =
     let inside : i < n = subst (λ (q : ℕ). q < n) pivot (R .pivot-below a h) in
     inl (a, h, pivot, alone-same n _ _ i inside (cleared-by-same M n e e₁ (at rec a) same .weights) alone)
@@ -33,8 +33,8 @@ alone-with-same M n rec e e₁ R below same i (inr (pivot, alone)) =
     inr (sym (same .pivots) ∙ pivot, alone-same n _ _ i inside (same .weights) alone)
 
 module _
-  (M : FieldModel) (L : FieldLaws M) (n : ℕ) (rec : List Pivoted) (R : Reduced M n rec) (g : Figured) (cg : CodedRow M n g)
-  (l : Figured) (same : SameRow n l (leftover M rec g)) where
+    (M : FieldModel) (L : FieldLaws M) (n : ℕ) (rec : List Pivoted) (R : Reduced M n rec) (g : Figured) (cg : CodedRow M n g)
+    (l : Figured) (same : SameRow n l (leftover M rec g)) where
   pub left-of : (p : ℕ) → p < n → l .row p ≢ 0 → ((m : ℕ) → m < p → l .row m ≡ 0) → Left M n rec g p
   left-of p below named lowest = record {
     below = below;
@@ -43,8 +43,8 @@ module _
   }
 
   pub fresh-same :
-    (x : RecordRow) → x .pivot .0 < n → SameRow n (figured (pivoted x)) (scaled M (M .inverse (l .row (x .pivot .0))) l)
-    → SamePivoted n (fresh-row M rec g (x .pivot .0)) (pivoted x)
+      (x : RecordRow) → x .pivot .0 < n → SameRow n (figured (pivoted x)) (scaled M (M .inverse (l .row (x .pivot .0))) l)
+      → SamePivoted n (fresh-row M rec g (x .pivot .0)) (pivoted x)
   fresh-same x below made =
       let p = x .pivot .0 in
       record {
@@ -54,8 +54,8 @@ module _
       }
 
 module _
-  (M : FieldModel) (L : FieldLaws M) (n : ℕ) (rec : List Pivoted) (R : Reduced M n rec) (g : Figured) (cg : CodedRow M n g)
-  (x : RecordRow) (left : Left M n rec g (x .pivot .0)) (same : SamePivoted n (fresh-row M rec g (x .pivot .0)) (pivoted x)) where
+    (M : FieldModel) (L : FieldLaws M) (n : ℕ) (rec : List Pivoted) (R : Reduced M n rec) (g : Figured) (cg : CodedRow M n g)
+    (x : RecordRow) (left : Left M n rec g (x .pivot .0)) (same : SamePivoted n (fresh-row M rec g (x .pivot .0)) (pivoted x)) where
   pub own-one : pivoted x .weights (x .pivot .0) ≡ 1
   own-one = sym (same .weights (x .pivot .0) (left .below)) ∙ own M L n rec R g cg (x .pivot .0) (left .below) (left .named) (left .lowest)
 
@@ -71,8 +71,8 @@ module _
   pub lowest-pinned : (i : ℕ) → Lowest (AloneWith M n rec (pivoted x)) i → Lowest (PinnedWith M n rec (g .row)) i
   lowest-pinned i low = record {
     holds =
-      alone-is-pinned M L n rec R g cg (x .pivot .0) (left .below) (left .named) (left .lowest) i
-      (alone-with-same M n rec (pivoted x) _ R (left .below) (turned same) i (low .holds));
+        alone-is-pinned M L n rec R g cg (x .pivot .0) (left .below) (left .named) (left .lowest) i
+        (alone-with-same M n rec (pivoted x) _ R (left .below) (turned same) i (low .holds));
     none-below = λ k h pinned. low .none-below k h (pinned-alone-beside k pinned);
   }
 

@@ -7,4 +7,7 @@ pub use judge::Admission;
 pub use judge::Judgement;
 pub use record::NoRecord;
 pub use record::Record;
+pub use rows::FiguredRow;
+pub use rows::RecordRow;
+pub use rows::RowNumber;
 pub use rows::check_row;

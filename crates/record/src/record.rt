@@ -25,5 +25,7 @@ mod calls;
 mod eliminate;
 mod join;
 mod make;
+mod read;
+mod witness;
 
 pub use make::NoRecord;

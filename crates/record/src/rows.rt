@@ -2,6 +2,10 @@
 use field::Element;
 use refusal::Member;
 
+// A row of the record, counted from 0.
+#[derive(Clone, Copy)]
+pub struct RowNumber(pub usize);
+
 // A row with its figure, as elimination works on it.
 #[derive(Clone, Copy)]
 pub struct FiguredRow {
@@ -20,3 +24,4 @@ mod checks;
 mod steps;
 
 pub use checks::check_row;
+pub use steps::minus;

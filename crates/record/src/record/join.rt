@@ -11,6 +11,7 @@ ghost use Rattle.record.specs.Records.{rec-of, Sound};
 ghost use Rattle.record.specs.Judged.{SamePivoted};
 use crate::record::Record;
 use crate::rows::RecordRow;
+use crate::rows::RowNumber;
 use field::Field;
 use refusal::Member;
 
@@ -33,32 +34,32 @@ fn clear_rows<F: Field>(rows: &mut Vec<RecordRow>, by: &RecordRow, n: usize)
 
 impl<F: Field> Record<F> {
     // How many rows have a pivot below a member: the place of a row with that pivot.
-    pub(crate) fn place_of(&self, pivot: Member) -> usize
-        ensures within { λ k. ⌜ k ≤ length (rec-of (now (self .entry))) ⌝ }
-        ensures below { λ k. ⌜ ((a : ℕ) → a < k → at (rec-of (now (self .entry))) a .pivot < pivot .0) ⌝ }
-        ensures above { λ k. ⌜ ((a : ℕ) → k ≤ a → a < length (rec-of (now (self .entry))) → pivot .0 ≤ at (rec-of (now (self .entry))) a .pivot) ⌝ }
+    pub(crate) fn place_of(&self, pivot: Member) -> RowNumber
+        ensures within { λ k. ⌜ k .0 ≤ length (rec-of (now (self .entry))) ⌝ }
+        ensures below { λ k. ⌜ ((a : ℕ) → a < k .0 → at (rec-of (now (self .entry))) a .pivot < pivot .0) ⌝ }
+        ensures above { λ k. ⌜ ((a : ℕ) → k .0 ≤ a → a < length (rec-of (now (self .entry))) → pivot .0 ≤ at (rec-of (now (self .entry))) a .pivot) ⌝ }
     {
         for (a, row) in self.rows.as_slice().iter().enumerate() {
             if row.pivot.0 >= pivot.0 {
-                return a;
+                return RowNumber(a);
             }
         }
-        self.rows.len()
+        RowNumber(self.rows.len())
     }
 
     // Puts a row in before row `k`, and clears its pivot from the others.
-    pub(crate) fn join(&mut self, fresh: RecordRow, k: usize)
+    pub(crate) fn join(&mut self, fresh: RecordRow, k: RowNumber)
         requires sound { ⌜ Sound model (now self) ⌝ }
-        requires place { ⌜ k ≤ length (rec-of (now self)) ⌝ }
+        requires place { ⌜ k .0 ≤ length (rec-of (now self)) ⌝ }
         requires pivot { ⌜ fresh .pivot .0 < now self .count ⌝ }
         requires coded { ⌜ CodedRow model (now self .count) (figured-record-row fresh) ⌝ }
-        requires reduced { ⌜ Reduced model (now self .count) (joined model (pivoted fresh) k (rec-of (now self))) ⌝ }
-        requires none_alone { ⌜ NoneAlone (now self .count) (joined model (pivoted fresh) k (rec-of (now self))) ⌝ }
+        requires reduced { ⌜ Reduced model (now self .count) (joined model (pivoted fresh) (k .0) (rec-of (now self))) ⌝ }
+        requires none_alone { ⌜ NoneAlone (now self .count) (joined model (pivoted fresh) (k .0) (rec-of (now self))) ⌝ }
         ensures count { λ _. ⌜ now (self .exit) .count ≡ now (self .entry) .count ⌝ }
-        ensures is { λ _. ⌜ Same (now (self .entry) .count) (joined model (pivoted fresh) k (rec-of (now (self .entry)))) (rec-of (now (self .exit))) ⌝ }
+        ensures is { λ _. ⌜ Same (now (self .entry) .count) (joined model (pivoted fresh) (k .0) (rec-of (now (self .entry)))) (rec-of (now (self .exit))) ⌝ }
     {
         clear_rows::<F>(&mut self.rows, &fresh, self.count);
-        if self.rows.insert(k, fresh).is_err() {
+        if self.rows.insert(k.0, fresh).is_err() {
             unreachable()
         }
     }

@@ -23,7 +23,7 @@ pub fn minus<F: Field>(a: Element, b: Element) -> Element
 
 impl FiguredRow {
     // Takes away that multiple of `by` which leaves 0 at its pivot, over the first `n` members.
-    pub fn clear<F: Field>(&mut self, by: &RecordRow, n: usize)
+    pub(crate) fn clear<F: Field>(&mut self, by: &RecordRow, n: usize)
         requires few { ⌜ n ≤ 64 ⌝ }
         requires pivot { ⌜ now by .pivot .0 < n ⌝ }
         requires coded { ⌜ CodedRow model n (figured-row (now self)) ⌝ }
@@ -42,7 +42,7 @@ impl FiguredRow {
     }
 
     // Multiplies the row and its figure, over the first `n` members.
-    pub fn scale<F: Field>(&mut self, factor: Element, n: usize)
+    pub(crate) fn scale<F: Field>(&mut self, factor: Element, n: usize)
         requires few { ⌜ n ≤ 64 ⌝ }
         ensures is { λ _. ⌜ SameRow n (figured-row (now (self .exit))) (scaled model (factor .0) (figured-row (now (self .entry)))) ⌝ }
         ensures coded { λ _. ⌜ CodedRow model n (figured-row (now (self .exit))) ⌝ }
@@ -54,7 +54,7 @@ impl FiguredRow {
     }
 
     // The lowest named member.
-    pub fn lowest_named(&self, n: usize) -> Option<Member>
+    pub(crate) fn lowest_named(&self, n: usize) -> Option<Member>
         requires few { ⌜ n ≤ 64 ⌝ }
         ensures { λ r. ⌜ Cases r ((m : ℕ) → m < n → weights-of (now (self .entry) .weights) m ≡ 0) (λ p. (p .0 < n) × (weights-of (now (self .entry) .weights) (p .0) ≢ 0) × ((m : ℕ) → m < p .0 → weights-of (now (self .entry) .weights) m ≡ 0)) ⌝ }
     {
@@ -67,7 +67,7 @@ impl FiguredRow {
     }
 
     // The lowest named member other than one.
-    pub fn lowest_other(&self, than: Member, n: usize) -> Option<Member>
+    pub(crate) fn lowest_other(&self, than: Member, n: usize) -> Option<Member>
         requires few { ⌜ n ≤ 64 ⌝ }
         ensures { λ r. ⌜ Cases r ((m : ℕ) → m < n → m ≢ than .0 → weights-of (now (self .entry) .weights) m ≡ 0) (λ p. (p .0 < n) × (p .0 ≢ than .0) × (weights-of (now (self .entry) .weights) (p .0) ≢ 0) × ((m : ℕ) → m < p .0 → m ≢ than .0 → weights-of (now (self .entry) .weights) m ≡ 0)) ⌝ }
     {
@@ -80,7 +80,7 @@ impl FiguredRow {
     }
 
     // The row of some weights, 0 past the last, with a figure.
-    pub fn of(weights: &[Element], figure: Element) -> FiguredRow
+    pub(crate) fn of(weights: &[Element], figure: Element) -> FiguredRow
         requires few { ⌜ length (now weights) ≤ 64 ⌝ }
         ensures row { λ r. ⌜ ((m : ℕ) → weights-of (r .weights) m ≡ weights-of (now (weights .entry)) m) ⌝ }
         ensures figure { λ r. ⌜ r .figure ≡ figure ⌝ }

@@ -43,24 +43,24 @@ went-in g c =
     let M = g .F·Field .model in
     let r = c .args .self .now in
     let size : length (rec-of r) ≡ length (vec-items (r .rows)) = rows-length _ in
-    let more = one-more M (r .count) (pivoted (c .args .fresh)) (c .args .k) (rec-of r) (c .pre .place) (c .pre .reduced) in
+    let more = one-more M (r .count) (pivoted (c .args .fresh)) (c .args .k .0) (rec-of r) (c .pre .place) (c .pre .reduced) in
     c .insert .ensures .succeeds (omega (arith, c .clear-rows .ensures .len, c .clear-rows .ensures .cap, r .room, r .rows .ok .0))
 
 rows-after :
     (g : _) (c : After-insert g)
-    → Same (c .args .self .now .count) (joined (g .F·Field .model) (pivoted (c .args .fresh)) (c .args .k) (rec-of (c .args .self .now))) (all-pivoted (vec-items (c .insert .last .self)))
+    → Same (c .args .self .now .count) (joined (g .F·Field .model) (pivoted (c .args .fresh)) (c .args .k .0) (rec-of (c .args .self .now))) (all-pivoted (vec-items (c .insert .last .self)))
 rows-after g c =
     let M = g .F·Field .model in
     let r = c .args .self .now in
     let rows₁ = vec-items (c .clear-rows .last .rows) in
     let size : length (rec-of r) ≡ length (vec-items (r .rows)) = rows-length _ in
     let size₁ : length (all-pivoted rows₁) ≡ length rows₁ = rows-length _ in
-    let items : vec-items (c .insert .last .self) ≡ inserted rows₁ (c .args .k) (c .args .fresh) =
-    c .insert .ensures .items ∙ ap (λ b. cond b (inserted rows₁ (c .args .k) (c .args .fresh)) rows₁) (went-in g c) in
-    subst (λ (l : List RecordRow). Same (r .count) (joined M (pivoted (c .args .fresh)) (c .args .k) (rec-of r)) (all-pivoted l)) (sym items)
+    let items : vec-items (c .insert .last .self) ≡ inserted rows₁ (c .args .k .0) (c .args .fresh) =
+    c .insert .ensures .items ∙ ap (λ b. cond b (inserted rows₁ (c .args .k .0) (c .args .fresh)) rows₁) (went-in g c) in
+    subst (λ (l : List RecordRow). Same (r .count) (joined M (pivoted (c .args .fresh)) (c .args .k .0) (rec-of r)) (all-pivoted l)) (sym items)
     (same-joined M (r .count) (c .args .fresh) (vec-items (r .rows)) rows₁
     (omega (arith, c .clear-rows .ensures .len, c .clear-rows .last .rows .ok .0, r .rows .ok .0))
-    (λ a h. c .clear-rows .ensures .is a (omega (arith, r .rows .ok .0))) (c .args .k) (c .pre .place))
+    (λ a h. c .clear-rows .ensures .is a (omega (arith, r .rows .ok .0))) (c .args .k .0) (c .pre .place))
 
 pub ghost-self : need.ghost-self
 ghost-self g c =
