@@ -145,9 +145,9 @@ module _ (M : FieldModel) (n : ℕ) (bs : List ℕ) where
           ∙ sym (ap₂ (λ x xs. x ∷ xs) mark-again (ap₂ (λ xs ys. xs ++ ys) map-again (ap₂ (λ xs ys. xs ++ ys) stored-again figure)))
 
 pub again :
-    (M : FieldModel) (n : ℕ) (k : LogRow) (bs : List ℕ) → ((i : ℕ) → getD bs i 0 < 256) → (w : Vector) (f : ℕ)
-    → Reads M n k bs w f → take (row-length M n bs) bs ≡ row-bytes M n w f
-again M n k bs fit w f r = go (r .check)
+    (M : FieldModel) (n : ℕ) (k : LogRow) (bs : List ℕ) → ((i : ℕ) → getD bs i 0 < 256) → (w : Vector) (f size : ℕ)
+    → Reads M n k bs w f size → take size bs ≡ row-bytes M n w f
+again M n k bs fit w f size r = ap (λ i. take i bs) (r .whole) ∙ go (r .check)
   where
     go : EntryCheck M n k bs None → take (row-length M n bs) bs ≡ row-bytes M n w f
     go (accepted fine below) = row-again M n bs fine w (r .weights) (r .none-past) fit f (r .figure)

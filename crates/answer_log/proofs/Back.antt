@@ -179,16 +179,14 @@ module _ (M : FieldModel) (n : ℕ) (w : Vector) (f : ℕ) (after : List ℕ) wh
           sym (plain-same w (row-weight M n row) n weight-is) ∙ not-true (plain w n) (sym weighted-is ∙ e);
     }
 
-    reads-row : (k : LogRow) → Reads M n k row w f
+    reads-row : (k : LogRow) → Reads M n k row w f (length (row-bytes M n w f))
     reads-row k = record {
       check = accepted weighed-back (rw (← figure-back) below);
       weights = weight-is;
       none-past = none-past;
       figure = figure-back;
+      whole = sym length-is;
     }
 
-    pub reads-back : (k : LogRow) → Reads M n k (row-bytes M n w f ++ after) w f
-    reads-back k = subst (λ (bs : List ℕ). Reads M n k bs w f) (sym row-is) (reads-row k)
-
-  pub length-back : row-length M n (row-bytes M n w f ++ after) ≡ length (row-bytes M n w f)
-  length-back = ap (row-length M n) row-is ∙ length-is
+    pub reads-back : (k : LogRow) → Reads M n k (row-bytes M n w f ++ after) w f (length (row-bytes M n w f))
+    reads-back k = subst (λ (bs : List ℕ). Reads M n k bs w f (length (row-bytes M n w f))) (sym row-is) (reads-row k)

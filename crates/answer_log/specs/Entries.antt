@@ -8,7 +8,7 @@
 --   Mapped, Named, Framed    what the checks up to the map's length, its bits and the row's length found in order
 --   Faulty M n bs m          member m is named, and its weight is no element, or 0
 --   EntryCheck M n k bs r    r is the answer for row number k, a refusal or none, in the order of the checks
---   Reads M n k bs w f       the row is accepted, with the weights w, 0 from the count on, and the figure f
+--   Reads M n k bs w f size  the row is accepted, with the weights w, 0 from the count on, the figure f and so many bytes
 -- Assumes nothing.
 use mathlib.Core.Path.{_≡_}
 use mathlib.Core.Logic.{_≢_, _⊎_}
@@ -99,8 +99,9 @@ pub data EntryCheck (M : FieldModel) (n : ℕ) (k : LogRow) (bs : List ℕ) : Op
   no-figure : Weighed M n bs → M .size ≤ row-figure M n bs → EntryCheck M n k bs (Some (NotAnElement (OfRow k)))
   accepted : Weighed M n bs → row-figure M n bs < M .size → EntryCheck M n k bs None
 
-pub record Reads (M : FieldModel) (n : ℕ) (k : LogRow) (bs : List ℕ) (w : Vector) (f : ℕ) : Type 0 where
+pub record Reads (M : FieldModel) (n : ℕ) (k : LogRow) (bs : List ℕ) (w : Vector) (f size : ℕ) : Type 0 where
   pub check : EntryCheck M n k bs None
   pub weights : (m : ℕ) → m < n → w m ≡ row-weight M n bs m
   pub none-past : (m : ℕ) → n ≤ m → w m ≡ 0
   pub figure : f ≡ row-figure M n bs
+  pub whole : size ≡ row-length M n bs

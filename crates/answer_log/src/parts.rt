@@ -5,14 +5,14 @@ ghost use Prim.Native.Nat.{_≤_, _<_};
 ghost use lib.ListN.{length, drop};
 ghost use Rattle.field.specs.Sums.{Codes, weights-of};
 ghost use Rattle.member_map.specs.Maps.{map-length};
-ghost use Rattle.answer_log.specs.Rows.{names, plain, map-byte, map-bytes, weight-bytes};
+ghost use Rattle.answer_log.specs.Rows.{names, plain, map-byte, map-bytes, weight-bytes, stored-bytes};
 use field::Element;
 use field::Field;
 use field::element_width;
 use field::encode;
 use member_map::map_length;
 
-// Whether every weight is 0 or 1.
+// Whether every weight is 0 or 1, so that none is stored.
 pub(crate) fn is_plain(weights: &[Element]) -> bool
     ensures { λ r. ⌜ r ≡ plain (weights-of (now (weights .entry))) (length (now (weights .entry))) ⌝ }
 {
@@ -24,13 +24,16 @@ pub(crate) fn is_plain(weights: &[Element]) -> bool
     true
 }
 
-// How many bytes the weights of the named members take.
-pub(crate) fn weights_length<F: Field>(weights: &[Element]) -> usize
+// How many bytes the stored weights take.
+pub(crate) fn stored_length<F: Field>(weights: &[Element]) -> usize
     requires { ⌜ length (now weights) ≤ 64 ⌝ }
-    ensures is { λ r. ⌜ r ≡ length (weight-bytes model (weights-of (now (weights .entry))) (length (now (weights .entry)))) ⌝ }
+    ensures is { λ r. ⌜ r ≡ length (stored-bytes model (weights-of (now (weights .entry))) (length (now (weights .entry)))) ⌝ }
     ensures few { λ r. ⌜ r ≤ 128 ⌝ }
 {
     let mut total = 0;
+    if is_plain(weights) {
+        return total;
+    }
     for weight in weights {
         if weight.0 != 0 {
             total += element_width::<F>();
@@ -73,11 +76,12 @@ pub(crate) fn write_map(weights: &[Element], out: &mut [u8])
     }
 }
 
-// Writes the weights of the named members to the front of `out`.
-pub(crate) fn write_weights<F: Field>(weights: &[Element], out: &mut [u8])
+// Writes the weights of the named members to the front of `out`, and answers how many bytes they take.
+pub(crate) fn write_weights<F: Field>(weights: &[Element], out: &mut [u8]) -> usize
     requires elements { ⌜ Codes model (length (now weights)) (weights-of (now weights)) ⌝ }
     requires room { ⌜ length (weight-bytes model (weights-of (now weights)) (length (now weights))) ≤ length (now out) ⌝ }
-    ensures { λ _. ⌜ now (out .exit) ≡ weight-bytes model (weights-of (now (weights .entry))) (length (now (weights .entry))) ++ drop (length (weight-bytes model (weights-of (now (weights .entry))) (length (now (weights .entry))))) (now (out .entry)) ⌝ }
+    ensures length { λ r. ⌜ r ≡ length (weight-bytes model (weights-of (now (weights .entry))) (length (now (weights .entry)))) ⌝ }
+    ensures buffer { λ r. ⌜ now (out .exit) ≡ weight-bytes model (weights-of (now (weights .entry))) (length (now (weights .entry))) ++ drop r (now (out .entry)) ⌝ }
 {
     let mut at = 0;
     for weight in weights {
@@ -87,4 +91,5 @@ pub(crate) fn write_weights<F: Field>(weights: &[Element], out: &mut [u8])
             }
         }
     }
+    at
 }

@@ -1,12 +1,12 @@
--- Answers for `weights_length`: one weight more.
+-- Answers for `stored_length`: one weight more.
 use mathlib.Core.Path.{_≡_, refl, sym, ap, _∙_}
 use native.Mathlib.Omega.{arith}
 use lib.ListN.{length}
 use Rattle.field.specs.Sums.{weights-of}
 use Rattle.answer_log.proofs.Elements.{narrow}
 use Rattle.answer_log.proofs.Weights.{stands, clear, weights-none, length-named, weights-unnamed}
-use Rattle.answer_log.proofs.parts.weights_length.Needs as need
-use Rattle.answer_log.proofs.parts.weights_length.Needs.{then-weight-ne0, else-weight-ne0}
+use Rattle.answer_log.proofs.parts.stored_length.Needs as need
+use Rattle.answer_log.proofs.parts.stored_length.Needs.{then-weight-ne0, else-weight-ne0}
 
 pub loop-weight-holds : need.loop-weight-holds
 loop-weight-holds g c = (sym (ap length (weights-none _ _)), omega arith)
