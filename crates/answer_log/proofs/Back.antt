@@ -22,7 +22,8 @@ use Rattle.member_map.proofs.Counts.{below-rises, below-named}
 use Rattle.answer_log.specs.Rows.{names, mark, plain, map-bytes, weight-bytes, stored-bytes, row-bytes}
 use Rattle.answer_log.specs.Entries.{mark-of, map-of, weighted, weight-place, figure-place, row-length, row-weight, row-figure, Mapped, Named, Framed, Faulty, Weighed, EntryCheck, accepted, Reads}
 use Rattle.answer_log.proofs.Bits.{map-bytes-length, named-written}
-use Rattle.answer_log.proofs.Elements.{written-length, code-back}
+use Rattle.answer_log.proofs.Elements.{code-back}
+use Rattle.answer_log.proofs.Buffers.{row-size}
 use Rattle.answer_log.proofs.Weights.{plain-tells, plain-same, weights-length, weight-back}
 
 -- where none of the members is counted, none is named
@@ -86,13 +87,10 @@ module _ (M : FieldModel) (n : ℕ) (w : Vector) (f : ℕ) (after : List ℕ) wh
       sym (ap₂ (λ bs p. code-at M bs p) same (sym place) ∙ code-back M before after f)
 
   length-is : row-length M n row ≡ length (row-bytes M n w f)
-  unfolding row-length row-bytes
+  unfolding row-length
   length-is =
-      let parts = length-append (map-bytes w n) (stored-bytes M w n ++ written M f) in
-      let more = length-append (stored-bytes M w n) (written M f) in
-      let map = map-bytes-length w n in
+      let parts = row-size M n w f in
       let all = stored-length in
-      let figure = written-length M f in
       omega arith
 
   long-enough : row-length M n row ≤ length row

@@ -4,3 +4,4 @@ pub mod Weights
 pub mod Buffers
 pub mod Again
 pub mod Back
+pub mod Writers

@@ -35,6 +35,10 @@ pub data RowWrite (M : FieldModel) (n : ℕ) (ws : List Element) (f room : ℕ) 
       Count n → RowCheck M n ws None → f < M .size → length (row-bytes M n (weights-of ws) f) ≤ room
       → RowWrite M n ws f room None
 
+-- some bytes, written to the front of a buffer
+abbrev pub onto : List ℕ → List ℕ → List ℕ
+onto bytes buffer = bytes ++ drop (length bytes) buffer
+
 pub record Put (bytes before after : List ℕ) (k : ℕ) : Type 0 where
   pub count : k ≡ length bytes
-  pub buffer : after ≡ bytes ++ drop k before
+  pub buffer : after ≡ onto bytes before

@@ -5,7 +5,7 @@ ghost use Prim.Native.Nat.{_≤_, _<_};
 ghost use lib.ListN.{length, drop};
 ghost use Rattle.field.specs.Sums.{Codes, weights-of};
 ghost use Rattle.member_map.specs.Maps.{map-length};
-ghost use Rattle.answer_log.specs.Rows.{names, plain, map-byte, map-bytes, weight-bytes, stored-bytes};
+ghost use Rattle.answer_log.specs.Rows.{names, mark as mark-of-row, plain, map-byte, map-bytes, weight-bytes, stored-bytes};
 use field::Element;
 use field::Field;
 use field::element_width;
@@ -22,6 +22,13 @@ pub(crate) fn is_plain(weights: &[Element]) -> bool
         }
     }
     true
+}
+
+// The mark of a row.
+pub(crate) fn mark(weights: &[Element]) -> u8
+    ensures { λ r. ⌜ r ≡ mark-of-row (weights-of (now (weights .entry))) (length (now (weights .entry))) ⌝ }
+{
+    if is_plain(weights) { 0 } else { 1 }
 }
 
 // How many bytes the stored weights take.
@@ -77,7 +84,7 @@ pub(crate) fn write_map(weights: &[Element], out: &mut [u8])
 }
 
 // Writes the weights of the named members to the front of `out`, and answers how many bytes they take.
-pub(crate) fn write_weights<F: Field>(weights: &[Element], out: &mut [u8]) -> usize
+fn write_weights<F: Field>(weights: &[Element], out: &mut [u8]) -> usize
     requires elements { ⌜ Codes model (length (now weights)) (weights-of (now weights)) ⌝ }
     requires room { ⌜ length (weight-bytes model (weights-of (now weights)) (length (now weights))) ≤ length (now out) ⌝ }
     ensures length { λ r. ⌜ r ≡ length (weight-bytes model (weights-of (now (weights .entry))) (length (now (weights .entry)))) ⌝ }
@@ -92,4 +99,17 @@ pub(crate) fn write_weights<F: Field>(weights: &[Element], out: &mut [u8]) -> us
         }
     }
     at
+}
+
+// Writes the stored weights to the front of `out`, and answers how many bytes they take.
+pub(crate) fn write_stored<F: Field>(weights: &[Element], out: &mut [u8]) -> usize
+    requires elements { ⌜ Codes model (length (now weights)) (weights-of (now weights)) ⌝ }
+    requires room { ⌜ length (stored-bytes model (weights-of (now weights)) (length (now weights))) ≤ length (now out) ⌝ }
+    ensures length { λ r. ⌜ r ≡ length (stored-bytes model (weights-of (now (weights .entry))) (length (now (weights .entry)))) ⌝ }
+    ensures buffer { λ r. ⌜ now (out .exit) ≡ stored-bytes model (weights-of (now (weights .entry))) (length (now (weights .entry))) ++ drop r (now (out .entry)) ⌝ }
+{
+    if is_plain(weights) {
+        return 0;
+    }
+    write_weights::<F>(weights, out)
 }

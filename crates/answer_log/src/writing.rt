@@ -8,11 +8,11 @@ ghost use Rattle.refusal.specs.declared.LogRow.{LogRow};
 ghost use Rattle.field.specs.Sums.{Codes, weights-of};
 ghost use Rattle.answer_log.specs.Rows.{header-bytes, row-bytes};
 ghost use Rattle.answer_log.specs.Entries.{Reads};
-ghost use Rattle.answer_log.specs.Writes.{HeaderWrite, RowWrite, Put};
-use crate::parts::is_plain;
+ghost use Rattle.answer_log.specs.Writes.{HeaderWrite, RowWrite, Put, onto};
+use crate::parts::mark;
 use crate::parts::stored_length;
 use crate::parts::write_map;
-use crate::parts::write_weights;
+use crate::parts::write_stored;
 use field::Element;
 use field::Field;
 use field::element_width;
@@ -51,16 +51,13 @@ pub(crate) fn put_row<F: Field>(weights: &[Element], figure: Element, out: &mut 
     requires elements { ⌜ Codes model (length (now weights)) (weights-of (now weights)) ⌝ }
     requires figure { ⌜ figure .0 < model .size ⌝ }
     requires room { ⌜ length (row-bytes model (length (now weights)) (weights-of (now weights)) (figure .0)) ≤ length (now out) ⌝ }
-    ensures { λ _. ⌜ Put (row-bytes model (length (now (weights .entry))) (weights-of (now (weights .entry))) (figure .0)) (now (out .entry)) (now (out .exit)) (length (row-bytes model (length (now (weights .entry))) (weights-of (now (weights .entry))) (figure .0))) ⌝ }
+    ensures { λ _. ⌜ now (out .exit) ≡ onto (row-bytes model (length (now (weights .entry))) (weights-of (now (weights .entry))) (figure .0)) (now (out .entry)) ⌝ }
 {
-    let plain = is_plain(weights);
-    out[0] = if plain { 0 } else { 1 };
+    out[0] = mark(weights);
     write_map(weights, &mut out[1..]);
-    let mut at = 1 + map_length(weights.len() as u8);
-    if !plain {
-        at += write_weights::<F>(weights, &mut out[at..]);
-    }
-    let _ = encode::<F>(figure, &mut out[at..]);
+    let at = 1 + map_length(weights.len() as u8);
+    let stored = write_stored::<F>(weights, &mut out[at..]);
+    let _ = encode::<F>(figure, &mut out[at + stored..]);
 }
 
 // Writes a row of `n` weights with its figure, and answers how many bytes it has. Read back, it is the same row.

@@ -5,13 +5,13 @@ use Prim.Native.Nat.{ℕ, _+_, _-_, _≤_, _<_}
 use native.Mathlib.Omega.{arith}
 use borrow.Author.Needs.{needs}
 use lib.ListN.{length, take, drop}
-use Rattle.std.proofs.shelf.Lists.{length-drop}
 use Rattle.field.specs.Model.{FieldModel}
 use Rattle.field.specs.Bytes.{width, written}
 use Rattle.field.specs.Sums.{Vector, weights-of}
 use Rattle.answer_log.specs.Rows.{names, weight-bytes}
+use Rattle.answer_log.proofs.Elements.{written-length}
 use Rattle.answer_log.proofs.Weights.{stands, clear, weights-none, weights-named, weights-unnamed, weights-rise, length-named}
-use Rattle.answer_log.proofs.Buffers.{part-is, part-put}
+use Rattle.answer_log.proofs.Buffers.{Front, part-length, front-more}
 use Rattle.answer_log.proofs.parts.write_weights.Needs as need
 use Rattle.answer_log.proofs.parts.write_weights.Needs.{then-weight-ne0·in-Some, then-weight-ne0·in-rest, else-weight-ne0}
 
@@ -54,6 +54,7 @@ loop-weight-again g c =
     let at = c .loop-weight .at in
     let done = weight-bytes M w m in
     let inv = c .loop-weight .inv in
+    let front : at ≤ length o → Front o (c .loop-weight .out) done at = λ h. record { buffer = inv .1; size = sym (inv .0); within = h } in
     let room = room-below M w n (m + 1) (length o) (omega arith) (c .pre .room) in
     elim (c .if-weight-ne0 .came) [
       | then-weight-ne0·in-Some v ↦
@@ -65,14 +66,14 @@ loop-weight-again g c =
           (
             omega (arith, inv .0),
             v .out-is
-            ∙ part-put o (c .loop-weight .out) done at (inv .1) (sym (inv .0)) within (written M (w m)) (v .encode .last .out) (width M) (wrote .3)
+            ∙ front-more o (c .loop-weight .out) done at (front within) (written M (w m)) (v .encode .last .out) (width M) (wrote .3) (written-length M (w m)) (omega (arith, inv .0)) .buffer
             ∙ ap₂ (λ xs k. xs ++ drop k o) (sym (weights-named M w m bit)) (sym far),
           )
       | then-weight-ne0·in-rest v ↦
           let bit = stands w m (v .if-weight-ne0 .taken) in
           let long = length-named M w m bit in
           let within : at ≤ length o = omega (arith, inv .0) in
-          let part = ap length (part-is o (c .loop-weight .out) done at (inv .1) (sym (inv .0)) within) ∙ length-drop at o in
+          let part = part-length o (c .loop-weight .out) done at (front within) in
           absurd (v .in-rest .ensures tt .1 (c .pre .elements m (c .loop-weight-test .taken)) (omega (arith, inv .0)))
       | else-weight-ne0 v ↦
           let same = weights-unnamed M w m (clear w m (v .if-weight-ne0 .left)) in
