@@ -37,7 +37,7 @@ take-four bs a b c h =
     ∙ ap (λ xs. take b (drop (1 + a) bs) ++ take c xs) (drop-drop b (1 + a) bs)))
 
 module _ (M : FieldModel) (n : ℕ) (bs : List ℕ) where
-  unnamed-weight : (m : ℕ) → named (map-of bs) m ≡ false → row-weight M n bs m ≡ 0
+  pub unnamed-weight : (m : ℕ) → named (map-of bs) m ≡ false → row-weight M n bs m ≡ 0
   unfolding row-weight
   unnamed-weight m e = ap (λ b. cond b (cond (weighted bs) (code-at M bs (weight-place M n bs m)) 1) 0) e
 
@@ -47,15 +47,20 @@ module _ (M : FieldModel) (n : ℕ) (bs : List ℕ) where
   unfolding row-weight
   named-weight m e = ap (λ b. cond b (cond (weighted bs) (code-at M bs (weight-place M n bs m)) 1) 0) e
 
+  pub stored-weight :
+      (m : ℕ) → named (map-of bs) m ≡ true → weighted bs ≡ true → row-weight M n bs m ≡ code-at M bs (weight-place M n bs m)
+  stored-weight m e s = named-weight m e ∙ ap (λ b. cond b (code-at M bs (weight-place M n bs m)) 1) s
+
+  pub unstored-weight : (m : ℕ) → named (map-of bs) m ≡ true → weighted bs ≡ false → row-weight M n bs m ≡ 1
+  unstored-weight m e s = named-weight m e ∙ ap (λ b. cond b (code-at M bs (weight-place M n bs m)) 1) s
+
   -- a row whose weights are not stored is plain
   unstored-plain : weighted bs ≡ false → plain (row-weight M n bs) n ≡ true
   unstored-plain none =
       plain-tells (row-weight M n bs) n .1
       (λ m h.
       ⊎-elim
-      (λ e.
-      let one = named-weight m e ∙ ap (λ b. cond b (code-at M bs (weight-place M n bs m)) 1) none in
-      omega arith)
+      (λ e. let one = unstored-weight m e none in omega arith)
       (λ e. let zero = unnamed-weight m e in omega arith)
       (cases-bool (named (map-of bs) m)))
 
@@ -124,7 +129,7 @@ module _ (M : FieldModel) (n : ℕ) (bs : List ℕ) where
               let place = figure-at ∙ ap (λ b. 1 + map-length n + cond b (width M * named-below (map-of bs) n) 0) e in
               let rest : figure-place M n bs + width M ≤ length bs = fine .framed .rest in
               let codes : (m : ℕ) → m < n → named (map-of bs) m ≡ true → w m ≡ code-at M bs (weight-place M n bs m) =
-              λ m h s. same m h ∙ named-weight m s ∙ ap (λ b. cond b (code-at M bs (weight-place M n bs m)) 1) e in
+              λ m h s. same m h ∙ stored-weight m s e in
               ap (λ b. cond b [] (weight-bytes M w n)) (plain-same w (row-weight M n bs) n same ∙ fine .needed e)
               ∙ weights-again M w (map-of bs) bs fit (1 + map-length n) n (omega arith) below-named codes
               ∙ sym (ap (λ b. take (cond b (width M * named-below (map-of bs) n) 0) (drop (1 + map-length n) bs)) e)

@@ -5,3 +5,4 @@ pub mod Buffers
 pub mod Again
 pub mod Back
 pub mod Writers
+pub mod Readers

@@ -11,7 +11,7 @@ use lib.Dec.{leb}
 use lib.ListN.{length, getD, take, drop}
 use Rattle.std.specs.Orderings.{Decides}
 use Rattle.std.proofs.shelf.Lists.{append-nil, append-assoc, length-append, drop-drop}
-use Rattle.std.proofs.shelf.Tests.{cases-bool, cases-eq, eq-eqb, ne-eqb}
+use Rattle.std.proofs.shelf.Tests.{cases-bool, cases-eq, cases-lt, eq-eqb, ne-eqb}
 use Rattle.std.proofs.shelf.Ways.{decides-below-and, decides-like, same-from-decides, tells}
 use Rattle.field.specs.Model.{FieldModel}
 use Rattle.field.specs.Bytes.{width, written, code-at}
@@ -30,6 +30,14 @@ pub plain-same : (v w : Vector) (n : ℕ) → ((m : ℕ) → m < n → v m ≡ w
 plain-same v w n same =
     same-from-decides (plain v n) (plain w n) (plain-tells v n)
     (decides-like (plain w n) (λ h m l. rw (same m l) (h m l)) (λ h m l. rw (sym (same m l)) (h m l)) (plain-tells w n))
+
+-- members of weight 0 change nothing
+pub plain-past : (w : Vector) (n k : ℕ) → n ≤ k → ((m : ℕ) → n ≤ m → w m ≡ 0) → plain w k ≡ plain w n
+plain-past w n k h past =
+    same-from-decides (plain w k) (plain w n) (plain-tells w k)
+    (decides-like (plain w n)
+    (λ each m l. ⊎-elim (λ b. each m b) (λ b. let zero = past m b in omega arith) (cases-lt m n))
+    (λ each m l. each m (omega arith)) (plain-tells w n))
 
 pub stands : (w : Vector) (m : ℕ) → (w m ≡ 0 → ⊥) → names w m ≡ true
 stands w m other = ap not (ne-eqb (w m) 0 other)

@@ -9,26 +9,28 @@
 --   Faulty M n bs m          member m is named, and its weight is no element, or 0
 --   EntryCheck M n k bs r    r is the answer for row number k, a refusal or none, in the order of the checks
 --   Reads M n k bs w f size  the row is accepted, with the weights w, 0 from the count on, the figure f and so many bytes
+--   RowAt M n k bytes at w f next   the same, for the row at a place of the log's bytes; the next row begins at `next`
+--   HeaderCheck M n bs r     r is the answer for the header of a log, where n is the server's count
 -- Assumes nothing.
 use mathlib.Core.Path.{_≡_}
 use mathlib.Core.Logic.{_≢_, _⊎_}
 use mathlib.Core.Bool.{Bool, true, false, cond}
 use mathlib.Core.List.{List}
-use Prim.Native.Nat.{ℕ, _+_, _*_, _≤_, _<_}
+use Prim.Native.Nat.{ℕ, _+_, _-_, _*_, _≤_, _<_}
 use lib.Dec.{eqb}
-use lib.ListN.{length, getD, drop}
+use lib.ListN.{length, getD, take, drop}
 use Rattle.std.specs.declared.option.Option.{Option}
 use Rattle.std.specs.declared.option.Option.the-variants.{Some, None}
 use Rattle.refusal.specs.declared.Refusal.{Refusal}
-use Rattle.refusal.specs.declared.Refusal.the-variants.{WrongLength, WrongCount, StrayMapBit, NotAnElement, StoredZero, UnknownMark, NoMemberNamed, NeedlessWeights}
-use Rattle.refusal.specs.declared.Site.the-variants.{OfRow}
+use Rattle.refusal.specs.declared.Refusal.the-variants.{WrongLength, WrongKind, WrongCount, StrayMapBit, NotAnElement, StoredZero, CountsDiffer, UnknownMark, NoMemberNamed, NeedlessWeights}
+use Rattle.refusal.specs.declared.Site.the-variants.{Nothing, OfRow}
 use Rattle.refusal.specs.declared.LogRow.{LogRow}
 use Rattle.field.specs.Model.{FieldModel}
 use Rattle.field.specs.Bytes.{width, code-at}
 use Rattle.field.specs.Sums.{Vector}
 use Rattle.server.specs.Checks.{Lowest, Count}
 use Rattle.member_map.specs.Maps.{map-length, named, named-below, Stray}
-use Rattle.answer_log.specs.Rows.{plain}
+use Rattle.answer_log.specs.Rows.{plain, row-bytes}
 
 abbrev pub mark-of : List ℕ → ℕ
 mark-of bs = getD bs 0 0
@@ -105,3 +107,19 @@ pub record Reads (M : FieldModel) (n : ℕ) (k : LogRow) (bs : List ℕ) (w : Ve
   pub none-past : (m : ℕ) → n ≤ m → w m ≡ 0
   pub figure : f ≡ row-figure M n bs
   pub whole : size ≡ row-length M n bs
+
+-- the row at a place of a log's bytes: read from there, and written the same, up to the next place
+pub record RowAt (M : FieldModel) (n : ℕ) (k : LogRow) (bytes : List ℕ) (at : ℕ) (w : Vector) (f next : ℕ) : Type 0 where
+  pub on : at < next
+  pub within : next ≤ length bytes
+  pub reads : Reads M n k (drop at bytes) w f (next - at)
+  pub same : take (next - at) (drop at bytes) ≡ row-bytes M n w f
+
+pub data HeaderCheck (M : FieldModel) (n : ℕ) (bs : List ℕ) : Option Refusal → Type 0 where
+  no-header : length bs < 2 → HeaderCheck M n bs (Some (WrongLength Nothing))
+  wrong-kind : 2 ≤ length bs → getD bs 0 0 ≢ M .kind → HeaderCheck M n bs (Some WrongKind)
+  wrong-count :
+      2 ≤ length bs → getD bs 0 0 ≡ M .kind → (Count (getD bs 1 0) → ⊥) → HeaderCheck M n bs (Some WrongCount)
+  counts-differ :
+      2 ≤ length bs → getD bs 0 0 ≡ M .kind → Count (getD bs 1 0) → getD bs 1 0 ≢ n → HeaderCheck M n bs (Some CountsDiffer)
+  accepted : 2 ≤ length bs → getD bs 0 0 ≡ M .kind → Count n → getD bs 1 0 ≡ n → HeaderCheck M n bs None

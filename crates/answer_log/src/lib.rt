@@ -1,6 +1,10 @@
 // The answer log: its header and its rows, written and read.
 mod parts;
+mod reading;
 mod writing;
 
+pub use reading::LogEntry;
+pub use reading::read_header;
+pub use reading::read_row;
 pub use writing::write_header;
 pub use writing::write_row;
