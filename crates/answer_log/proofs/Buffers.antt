@@ -14,6 +14,7 @@ use Rattle.field.specs.Bytes.{width, written}
 use Rattle.field.specs.Sums.{Vector}
 use Rattle.member_map.specs.Maps.{map-length}
 use Rattle.answer_log.specs.Rows.{mark, map-bytes, stored-bytes, row-bytes}
+use Rattle.answer_log.specs.Writes.{Front}
 use Rattle.answer_log.proofs.Bits.{map-bytes-length}
 use Rattle.answer_log.proofs.Elements.{written-length}
 
@@ -27,12 +28,6 @@ byte-put done o k h l =
     ∙ set-at (take k done) (getD o k 0) (drop (k + 1) o) b k (length-take-le k done (omega arith))
     ∙ sym (append-assoc (take k done) (b ∷ []) (drop (k + 1) o))
     ∙ sym (ap (λ xs. xs ++ drop (k + 1) o) (take-more done k 0 h))
-
--- xs is the buffer o with `done` written to its front, which has a bytes
-pub record Front (o xs done : List ℕ) (a : ℕ) : Type 0 where
-  pub buffer : xs ≡ done ++ drop a o
-  pub size : length done ≡ a
-  pub within : a ≤ length o
 
 pub front-byte : (o : List ℕ) (b : ℕ) → 1 ≤ length o → Front o (set o 0 b) (b ∷ []) 1
 front-byte o b h = record { buffer = ap (λ xs. set xs 0 b) (drop-more o 0 0 h); size = refl; within = h }

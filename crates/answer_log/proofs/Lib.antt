@@ -6,3 +6,4 @@ pub mod Again
 pub mod Back
 pub mod Writers
 pub mod Readers
+pub mod Logs
