@@ -1,10 +1,10 @@
 -- A row that is read is written again as the bytes that it was read from. Assumes nothing.
 use mathlib.Core.Path.{_≡_, refl, sym, ap, ap₂, _∙_}
-use mathlib.Core.Logic.{_⊎_, inl, inr, ⊎-elim}
+use mathlib.Core.Logic.{inr, ⊎-elim}
 use mathlib.Core.Bool.{Bool, true, false, not, cond}
 use mathlib.Core.List.{List, [], _∷_, _++_}
 use Prim.Native.Nat.{ℕ, _+_, _*_, _≤_, _<_}
-use native.Mathlib.Nat.{add-assoc, add-zero}
+use native.Mathlib.Nat.{add-zero}
 use native.Mathlib.Omega.{arith}
 use lib.Dec.{eqb}
 use lib.ListN.{length, getD, take, drop}
@@ -17,7 +17,7 @@ use Rattle.field.specs.Bytes.{width, written, code-at}
 use Rattle.field.specs.Sums.{Vector}
 use Rattle.member_map.specs.Maps.{map-length, named, named-below}
 use Rattle.answer_log.specs.Rows.{names, mark, plain, map-bytes, weight-bytes, stored-bytes, row-bytes}
-use Rattle.answer_log.specs.Entries.{mark-of, map-of, weighted, weight-place, figure-place, row-length, row-weight, row-figure, Mapped, Named, Framed, Weighed, EntryCheck, accepted, Reads}
+use Rattle.answer_log.specs.Entries.{mark-of, map-of, weighted, weight-place, figure-place, row-length, row-weight, row-figure, Mapped, Weighed, EntryCheck, accepted, Reads}
 use Rattle.answer_log.proofs.Bits.{map-read}
 use Rattle.answer_log.proofs.Elements.{take-parts, code-again}
 use Rattle.answer_log.proofs.Weights.{plain-tells, plain-same, weights-again}
@@ -80,6 +80,7 @@ module _ (M : FieldModel) (n : ℕ) (bs : List ℕ) where
             ap not other ∙ sym e)
             (λ l. absurd (fine .framed .named .no-stray m (l, h, e)))
             (cases-lt m n)
+
         clear : named (map-of bs) m ≡ false → names w m ≡ named (map-of bs) m
         clear e =
             ⊎-elim (λ l. ap not (eq-eqb (w m) 0 (same m l ∙ unnamed-weight m e)) ∙ sym e)
@@ -133,6 +134,7 @@ module _ (M : FieldModel) (n : ℕ) (bs : List ℕ) where
               ap (λ b. cond b [] (weight-bytes M w n)) (plain-same w (row-weight M n bs) n same ∙ fine .needed e)
               ∙ weights-again M w (map-of bs) bs fit (1 + map-length n) n (omega arith) below-named codes
               ∙ sym (ap (λ b. take (cond b (width M * named-below (map-of bs) n) 0) (drop (1 + map-length n) bs)) e)
+
           none : weighted bs ≡ false → stored-bytes M w n ≡ take stored (drop (1 + map-length n) bs)
           none e =
               ap (λ b. cond b [] (weight-bytes M w n)) (plain-same w (row-weight M n bs) n same ∙ unstored-plain e)

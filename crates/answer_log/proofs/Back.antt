@@ -1,26 +1,25 @@
 -- A row that is written is read back. Assumes nothing.
 use mathlib.Core.Path.{_≡_, refl, sym, ap, ap₂, subst, _∙_}
-use mathlib.Core.Logic.{_⊎_, inl, inr, ⊎-elim, _≢_}
+use mathlib.Core.Logic.{⊎-elim}
 use mathlib.Core.Bool.{Bool, true, false, not, cond}
 use mathlib.Core.List.{List, [], _∷_, _++_}
-use Prim.Native.Nat.{ℕ, zero, suc, _+_, _*_, _≤_, _<_}
-use native.Mathlib.Nat.{add-zero, add-assoc}
+use Prim.Native.Nat.{ℕ, zero, suc, _+_, _≤_, _<_}
+use native.Mathlib.Nat.{add-zero}
 use native.Mathlib.Numerals.{add-one}
 use native.Mathlib.Omega.{arith}
 use lib.Dec.{eqb}
-use lib.ListN.{length, getD}
-use Rattle.std.specs.declared.option.Option.the-variants.{None}
+use lib.ListN.{length}
 use Rattle.std.proofs.shelf.Lists.{append-assoc, length-append}
 use Rattle.std.proofs.shelf.Tests.{cases-bool, cases-eq, eqb-true, eqb-false, not-true, not-false, eq-eqb, both-ways}
 use Rattle.refusal.specs.declared.LogRow.{LogRow}
 use Rattle.field.specs.Model.{FieldModel}
-use Rattle.field.specs.Bytes.{width, written, code-at}
+use Rattle.field.specs.Bytes.{written, code-at}
 use Rattle.field.specs.Sums.{Vector, Codes}
 use Rattle.server.specs.Checks.{Count}
-use Rattle.member_map.specs.Maps.{map-length, named, named-below, Stray}
+use Rattle.member_map.specs.Maps.{map-length, named, named-below}
 use Rattle.member_map.proofs.Counts.{below-rises, below-named}
 use Rattle.answer_log.specs.Rows.{names, mark, plain, map-bytes, weight-bytes, stored-bytes, row-bytes}
-use Rattle.answer_log.specs.Entries.{mark-of, map-of, weighted, weight-place, figure-place, row-length, row-weight, row-figure, Mapped, Named, Framed, Faulty, Weighed, EntryCheck, accepted, Reads}
+use Rattle.answer_log.specs.Entries.{weighted, weight-place, figure-place, row-length, row-weight, row-figure, Mapped, Named, Weighed, accepted, Reads}
 use Rattle.answer_log.proofs.Bits.{map-bytes-length, named-written}
 use Rattle.answer_log.proofs.Elements.{code-back}
 use Rattle.answer_log.proofs.Buffers.{row-size}
@@ -109,6 +108,7 @@ module _ (M : FieldModel) (n : ℕ) (w : Vector) (f : ℕ) (after : List ℕ) wh
     where
       other : names w m ≡ true → w m ≡ 0 → ⊥
       other e = eqb-false (w m) 0 (not-true (eqb (w m) 0) e)
+
       kept : names w m ≡ true → w m ≡ cond (weighted row) (stored m) 1
       kept e =
           ⊎-elim
@@ -128,8 +128,10 @@ module _ (M : FieldModel) (n : ℕ) (w : Vector) (f : ℕ) (after : List ℕ) wh
           ∙ ap₂ (λ bs k. code-at M bs k) same (sym place)
           ∙ weight-back M w before (written M f ++ after) n m h e))
           (cases-bool (plain w n))
+
       stands : names w m ≡ true → w m ≡ row-weight M n row m
       stands e = kept e ∙ sym (ap (λ b. cond b (cond (weighted row) (stored m) 1) 0) (bit-is m h ∙ e))
+
       clear : names w m ≡ false → w m ≡ row-weight M n row m
       clear e =
           eqb-true (w m) 0 (not-false (eqb (w m) 0) e)

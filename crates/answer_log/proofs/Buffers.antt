@@ -65,16 +65,6 @@ module _ (o xs done : List ℕ) (a : ℕ) (front : Front o xs done a) where
         within = within;
       }
 
-  -- no bytes more
-  pub front-same : (xs′ bytes : List ℕ) → xs′ ≡ xs → bytes ≡ [] → Front o xs′ (done ++ bytes) a
-  front-same xs′ bytes e none =
-      let same = ap (λ us. done ++ us) none ∙ append-nil done in
-      record {
-        buffer = e ∙ front .buffer ∙ sym (ap (λ us. us ++ drop a o) same);
-        size = ap length same ∙ front .size;
-        within = front .within;
-      }
-
 -- how many bytes a row has
 pub row-size :
     (M : FieldModel) (n : ℕ) (w : Vector) (f : ℕ)

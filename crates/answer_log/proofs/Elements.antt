@@ -46,12 +46,14 @@ module _ (M : FieldModel) where
     where
       first : (x : ℕ) (xs : List ℕ) → getD (before ++ (x ∷ xs)) (length before) 0 ≡ x
       first x xs = ap (λ i. getD (before ++ (x ∷ xs)) i 0) (sym (add-zero (length before))) ∙ getD-append-add before (x ∷ xs) 0 0
+
       second : (x y : ℕ) (xs : List ℕ) → getD (before ++ (x ∷ y ∷ xs)) (length before + 1) 0 ≡ y
       second x y xs = getD-append-add before (x ∷ y ∷ xs) 1 0
+
       go :
           (b : Bool)
           → (let bs = before ++ (by-width b (e ∷ []) (e / 256 ∷ e % 256 ∷ []) ++ after) in
-            by-width b (getD bs (length before) 0) (getD bs (length before) 0 * 256 + getD bs (length before + 1) 0))
+          by-width b (getD bs (length before) 0) (getD bs (length before) 0 * 256 + getD bs (length before + 1) 0))
           ≡ e
       go true = first e after
       go false =
@@ -66,7 +68,7 @@ module _ (M : FieldModel) where
       go :
           (b : Bool) → p + by-width b 1 2 ≤ length bs
           → (let e = by-width b (getD bs p 0) (getD bs p 0 * 256 + getD bs (p + 1) 0) in
-            by-width b (e ∷ []) (e / 256 ∷ e % 256 ∷ []))
+          by-width b (e ∷ []) (e / 256 ∷ e % 256 ∷ []))
           ≡ take (by-width b 1 2) (drop p bs)
       go true h = sym (ap (take 1) (drop-more bs p 0 (omega arith)))
       go false h =

@@ -1,12 +1,11 @@
 -- What the code reads of a row, in the words of the specification. Assumes nothing.
-use mathlib.Core.Path.{_≡_, refl, sym, ap, ap₂, subst, _∙_}
-use mathlib.Core.Logic.{_⊎_, inl, inr, ⊎-elim}
+use mathlib.Core.Path.{_≡_, sym, ap, ap₂, subst, _∙_}
+use mathlib.Core.Logic.{inl, inr, ⊎-elim}
 use mathlib.Core.Bool.{Bool, true, false, cond, true≢false}
 use mathlib.Core.List.{List}
 use Prim.Native.Nat.{ℕ, zero, suc, min, _+_, _-_, _*_, _≤_, _<_}
 use native.Mathlib.Nat.{mul-le-mul}
 use native.Mathlib.Omega.{arith}
-use lib.Dec.{eqb}
 use lib.ListN.{length, getD, take, drop}
 use Rattle.std.specs.declared.option.Option.the-variants.{Some, None}
 use Rattle.std.proofs.shelf.Lists.{take-rest, drop-all, length-drop, getD-drop}
@@ -17,11 +16,10 @@ use Rattle.refusal.specs.declared.Site.the-variants.{OfRow}
 use Rattle.field.specs.Model.{FieldModel}
 use Rattle.field.specs.Bytes.{width}
 use Rattle.field.specs.Sums.{Vector}
-use Rattle.server.specs.Checks.{Lowest}
 use Rattle.member_map.specs.Maps.{map-length, named, named-below, Stray}
 use Rattle.member_map.proofs.Counts.{none-below, below-rises}
 use Rattle.answer_log.specs.Rows.{plain}
-use Rattle.answer_log.specs.Entries.{mark-of, map-of, weighted, weight-place, figure-place, row-length, row-weight, Framed, Faulty, Weighed, EntryCheck, not-an-element, stored-zero, accepted, Reads, RowAt}
+use Rattle.answer_log.specs.Entries.{mark-of, map-of, weighted, weight-place, figure-place, row-length, row-weight, Framed, Faulty, EntryCheck, not-an-element, stored-zero, accepted, Reads, RowAt}
 use Rattle.answer_log.proofs.Elements.{narrow, some-width}
 use Rattle.answer_log.proofs.Weights.{plain-same, plain-past}
 use Rattle.answer_log.proofs.Again.{again}

@@ -1,7 +1,7 @@
 -- A row that passed its checks, and is written. Assumes nothing.
-use mathlib.Core.Path.{_≡_, refl, sym, ap, subst, _∙_}
+use mathlib.Core.Path.{_≡_, sym, ap, subst, _∙_}
 use mathlib.Core.List.{List, _++_}
-use Prim.Native.Nat.{ℕ, _≤_, _<_}
+use Prim.Native.Nat.{ℕ, _<_}
 use native.Mathlib.Omega.{arith}
 use lib.ListN.{length, drop}
 use Rattle.std.specs.declared.option.Option.the-variants.{None}
@@ -44,8 +44,7 @@ module _ (M : FieldModel) (n : ℕ) (ws : List Element) where
   row-written count fine f below before after k size is =
       let bytes = row-bytes M n (weights-of ws) f in
       let long : k ≡ length bytes = size ∙ ap length (checked-row fine f) in
-      let buffer : after ≡ onto bytes before = is ∙ ap (λ bs. onto bs before) (checked-row fine f) in
-      (
+      let buffer : after ≡ onto bytes before = is ∙ ap (λ bs. onto bs before) (checked-row fine f) in (
         record { count = long; buffer = buffer },
         λ row.
             subst (λ (bs : List ℕ). Reads M n row bs (weights-of ws) f k) (sym buffer)

@@ -2,7 +2,7 @@
 ghost use mathlib.Core.Path.{_≡_};
 ghost use mathlib.Core.Bool.{true};
 ghost use Prim.Native.Nat.{ℕ, _≤_, _<_};
-ghost use lib.ListN.{length, getD, drop};
+ghost use lib.ListN.{length, drop};
 ghost use Rattle.std.specs.Results.{Cases};
 ghost use Rattle.std.specs.declared.option.Option.the-variants.{Some, None};
 ghost use Rattle.field.specs.Sums.{weights-of};
@@ -178,7 +178,12 @@ fn read_first<F: Field>(rest: &[u8], n: u8, row: LogRow) -> Result<LogEntry, Ref
 }
 
 // The row at a place of a log's bytes. Written again it is the same bytes.
-pub fn read_row<F: Field>(bytes: &[u8], at: usize, n: usize, row: LogRow) -> Result<LogEntry, Refusal>
+pub fn read_row<F: Field>(
+    bytes: &[u8],
+    at: usize,
+    n: usize,
+    row: LogRow,
+) -> Result<LogEntry, Refusal>
     ensures { λ r. ⌜ Cases r (λ e. RowAt model n row (now (bytes .entry)) at (weights-of (e .weights)) (e .figure .0) (e .next)) (λ e. EntryCheck model n row (drop at (now (bytes .entry))) (Some e)) ⌝ }
 {
     if n == 0 || n > 64 {

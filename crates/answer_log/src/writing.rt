@@ -61,7 +61,12 @@ pub(crate) fn put_row<F: Field>(weights: &[Element], figure: Element, out: &mut 
 }
 
 // Writes a row of `n` weights with its figure, and answers how many bytes it has. Read back, it is the same row.
-pub fn write_row<F: Field>(n: usize, weights: &[Element], figure: Element, out: &mut [u8]) -> Result<usize, Refusal>
+pub fn write_row<F: Field>(
+    n: usize,
+    weights: &[Element],
+    figure: Element,
+    out: &mut [u8],
+) -> Result<usize, Refusal>
     ensures { λ r. ⌜ Cases r (λ k. RowWrite model n (now (weights .entry)) (figure .0) (length (now (out .entry))) None × Put (row-bytes model n (weights-of (now (weights .entry))) (figure .0)) (now (out .entry)) (now (out .exit)) k × ((row : LogRow) → Reads model n row (now (out .exit)) (weights-of (now (weights .entry))) (figure .0) k)) (λ e. RowWrite model n (now (weights .entry)) (figure .0) (length (now (out .entry))) (Some e) × (now (out .exit) ≡ now (out .entry))) ⌝ }
 {
     if n == 0 || n > 64 {

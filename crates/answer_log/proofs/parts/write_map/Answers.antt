@@ -1,9 +1,9 @@
 -- Answers for `write_map`: one byte more, and the whole map.
-use mathlib.Core.Path.{_≡_, refl, sym, ap, ap₂, _∙_}
+use mathlib.Core.Path.{_≡_, sym, ap₂, _∙_}
 use mathlib.Core.List.{_++_}
 use Prim.Native.Nat.{_<_}
 use native.Mathlib.Omega.{arith}
-use lib.ListN.{length, set, take, drop}
+use lib.ListN.{length, set, drop}
 use Rattle.std.proofs.shelf.Lists.{take-all}
 use Rattle.field.specs.Sums.{weights-of}
 use Rattle.member_map.specs.Maps.{map-length}

@@ -1,14 +1,14 @@
 -- Answers for `write_weights`: one weight more.
-use mathlib.Core.Path.{_≡_, refl, sym, ap, ap₂, _∙_}
-use mathlib.Core.List.{List, _++_}
-use Prim.Native.Nat.{ℕ, _+_, _-_, _≤_, _<_}
+use mathlib.Core.Path.{_≡_, sym, ap, ap₂, _∙_}
+use mathlib.Core.List.{_++_}
+use Prim.Native.Nat.{ℕ, _+_, _-_, _≤_}
 use native.Mathlib.Omega.{arith}
 use borrow.Author.Needs.{needs}
-use lib.ListN.{length, take, drop}
+use lib.ListN.{length, drop}
 use Rattle.field.specs.Model.{FieldModel}
 use Rattle.field.specs.Bytes.{width, written}
 use Rattle.field.specs.Sums.{Vector, weights-of}
-use Rattle.answer_log.specs.Rows.{names, weight-bytes}
+use Rattle.answer_log.specs.Rows.{weight-bytes}
 use Rattle.answer_log.proofs.Elements.{written-length}
 use Rattle.answer_log.proofs.Weights.{stands, clear, weights-none, weights-named, weights-unnamed, weights-rise, length-named}
 use Rattle.answer_log.specs.Writes.{Front}
@@ -63,12 +63,11 @@ loop-weight-again g c =
           let long = length-named M w m bit in
           let wrote = v .in-Some .ensures tt in
           let far : c .if-weight-ne0 .at ≡ at + width M = v .at-is ∙ ap (λ k. at + k) (wrote .1) in
-          let within : at ≤ length o = omega (arith, inv .0) in
-          (
+          let within : at ≤ length o = omega (arith, inv .0) in (
             omega (arith, inv .0),
             v .out-is
-            ∙ front-more o (c .loop-weight .out) done at (front within) (written M (w m)) (v .encode .last .out) (width M) (wrote .3) (written-length M (w m)) (omega (arith, inv .0)) .buffer
-            ∙ ap₂ (λ xs k. xs ++ drop k o) (sym (weights-named M w m bit)) (sym far),
+                ∙ front-more o (c .loop-weight .out) done at (front within) (written M (w m)) (v .encode .last .out) (width M) (wrote .3) (written-length M (w m)) (omega (arith, inv .0)) .buffer
+                ∙ ap₂ (λ xs k. xs ++ drop k o) (sym (weights-named M w m bit)) (sym far),
           )
       | then-weight-ne0·in-rest v ↦
           let bit = stands w m (v .if-weight-ne0 .taken) in
@@ -77,8 +76,7 @@ loop-weight-again g c =
           let part = part-length o (c .loop-weight .out) done at (front within) in
           absurd (v .in-rest .ensures tt .1 (c .pre .elements m (c .loop-weight-test .taken)) (omega (arith, inv .0)))
       | else-weight-ne0 v ↦
-          let same = weights-unnamed M w m (clear w m (v .if-weight-ne0 .left)) in
-          (
+          let same = weights-unnamed M w m (clear w m (v .if-weight-ne0 .left)) in (
             v .at-is ∙ inv .0 ∙ sym (ap length same),
             v .out-is ∙ inv .1 ∙ ap₂ (λ xs k. xs ++ drop k o) (sym same) (sym (v .at-is)),
           )

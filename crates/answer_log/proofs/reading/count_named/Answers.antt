@@ -1,5 +1,5 @@
 -- Answers for `count_named`: the mark and the map.
-use mathlib.Core.Path.{_≡_, sym, _∙_}
+use mathlib.Core.Path.{sym, _∙_}
 use native.Mathlib.Omega.{arith}
 use Rattle.answer_log.specs.Entries.{Mapped, unknown-mark, map-cut, stray-bit, none-named}
 use Rattle.answer_log.proofs.Readers.{stray-of, none-stray, count-is}
@@ -20,8 +20,7 @@ returns-in-Some g c =
       known = omega (arith, c .mark-of .ensures);
       whole = omega (arith, c .map-length .ensures);
     } in
-    let q1 = c .in-Some .ensures tt in
-    stray-bit mapped _ (stray-of bs (c .args .n) _ (q1 .0))
+    stray-bit mapped _ (stray-of bs (c .args .n) _ (c .in-Some .ensures tt .0))
 
 pub returns-then-named-eq0 : need.returns-then-named-eq0
 returns-then-named-eq0 g c =
@@ -37,8 +36,7 @@ returns-then-named-eq0 g c =
 pub returns : need.returns
 returns g c =
     let bs = c .args .rest .now in
-    let count = count-is bs (c .args .n) (c .args .n) _ (c .named-count-named .ensures) in
-    (
+    let count = count-is bs (c .args .n) (c .args .n) _ (c .named-count-named .ensures) in (
       record {
         mapped = record {
           count = c .pre;

@@ -1,8 +1,7 @@
 -- Answers for `find_figure`: the place that mark and map call for, and no sum that wraps.
-use mathlib.Core.Path.{_≡_, sym, ap₂, _∙_}
+use mathlib.Core.Path.{_≡_, _∙_}
 use Prim.Native.Nat.{_+_, _*_, _≤_}
 use native.Mathlib.Omega.{arith}
-use Rattle.field.specs.Bytes.{width}
 use Rattle.answer_log.specs.Entries.{figure-place, row-length, rest-cut}
 use Rattle.answer_log.proofs.Elements.{narrow}
 use Rattle.answer_log.proofs.Readers.{few-bytes, is-weighted, not-weighted, figure-stored, figure-unstored}

@@ -1,5 +1,5 @@
 -- Answers for `read_header`: which check of the header failed.
-use mathlib.Core.Path.{_≡_, sym, _∙_}
+use mathlib.Core.Path.{sym, _∙_}
 use mathlib.Core.Logic.{⊎-elim}
 use native.Mathlib.Omega.{arith}
 use Rattle.answer_log.specs.Entries.{no-header, wrong-kind, wrong-count, counts-differ, accepted}

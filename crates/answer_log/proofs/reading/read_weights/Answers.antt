@@ -1,8 +1,7 @@
 -- Answers for `read_weights`: the lowest fault, or none, and the weights.
-use mathlib.Core.Path.{_≡_, refl, sym, ap, subst, _∙_}
+use mathlib.Core.Path.{_≡_, refl, sym, ap, _∙_}
 use mathlib.Core.Logic.{_≢_}
-use mathlib.Core.List.{List}
-use Prim.Native.Nat.{ℕ, _+_, _≤_, _<_}
+use Prim.Native.Nat.{ℕ, _<_}
 use native.Mathlib.Omega.{arith}
 use borrow.Author.Count.{below-more}
 use lib.ListN.{length, set, length-set}
@@ -56,8 +55,7 @@ loop-m-again g c =
           let below : row-weight M n bs m < M .size = rw (← code, ← v .size .ensures) (v .if-weight-size .left) in
           let room : m < length old = omega (arith, inv .0, c .pre .named .mapped .count) in
           let other : (k : ℕ) → k ≢ m → weights-of new k ≡ weights-of old k =
-          λ k ne. ap (λ ws. weights-of ws k) is ∙ unwritten old m k _ ne in
-          (
+          λ k ne. ap (λ ws. weights-of ws k) is ∙ unwritten old m k _ ne in (
             ap length is ∙ length-set old m (v .named-weight-weight .result) ∙ inv .0,
             below-more _ _ (inv .1) (no-fault M n bs m below (λ z. v .if-weight-eq0 .left (code ∙ z))),
             below-more _ _ (λ k h. other k (omega arith) ∙ inv .2 k h) (ap (λ ws. weights-of ws m) is ∙ written old m _ room ∙ code),
@@ -65,8 +63,7 @@ loop-m-again g c =
           )
       | else-is-named v ↦
           let bit = bit-is bs n m _ _ (c .from .ensures) (c .is-named .ensures) ∙ v .if-is-named .left in
-          let kept : (k : ℕ) → weights-of new k ≡ weights-of old k = λ k. ap (λ ws. weights-of ws k) (v .weights-is) in
-          (
+          let kept : (k : ℕ) → weights-of new k ≡ weights-of old k = λ k. ap (λ ws. weights-of ws k) (v .weights-is) in (
             ap length (v .weights-is) ∙ inv .0,
             below-more _ _ (inv .1) (unnamed-no-fault M n bs m bit),
             below-more _ _ (λ k h. kept k ∙ inv .2 k h) (kept m ∙ inv .3 m (omega arith) ∙ sym (unnamed-weight M n bs m bit)),
@@ -77,8 +74,7 @@ loop-m-again g c =
 pub returns : need.returns
 returns g c =
     let inv = c .loop-m .inv in
-    let all : c .loop-m .m ≡ c .args .n = omega arith in
-    (
+    let all : c .loop-m .m ≡ c .args .n = omega arith in (
       inv .0,
       λ m f. inv .1 m (omega (arith, f .0)) f,
       λ m h. inv .2 m (omega arith),

@@ -29,11 +29,11 @@ returns g c =
     let ws = c .in-Ok .weights in
     let fine = c .in-Ok .ensures tt in
     let needed : weighted bs ≡ true → plain (row-weight M n bs) n ≡ false = λ e.
-        elim (c .else-mark-of-eq1 .came) [
-          | else-mark-of-eq1·by·then-mark-of-eq1·else-is-plain v ↦
-              sym (plain-read M n bs (weights-of ws) (length ws) (omega (arith, c .pre .named .mapped .count, fine .0)) (fine .2) (fine .3))
-              ∙ sym (v .is-plain .ensures) ∙ v .if-is-plain .left
-          | else-mark-of-eq1·by·else-mark-of-eq1 v ↦
-              absurd (both-ways _ (not-weighted bs _ (c .mark-of .ensures) (v .if-mark-of-eq1 .left)) e)
-        ]
+    elim (c .else-mark-of-eq1 .came) [
+      | else-mark-of-eq1·by·then-mark-of-eq1·else-is-plain v ↦
+          sym (plain-read M n bs (weights-of ws) (length ws) (omega (arith, c .pre .named .mapped .count, fine .0)) (fine .2) (fine .3))
+          ∙ sym (v .is-plain .ensures) ∙ v .if-is-plain .left
+      | else-mark-of-eq1·by·else-mark-of-eq1 v ↦
+          absurd (both-ways _ (not-weighted bs _ (c .mark-of .ensures) (v .if-mark-of-eq1 .left)) e)
+    ]
     in (record { framed = c .pre; no-fault = fine .1; needed = needed }, fine .2, fine .3)

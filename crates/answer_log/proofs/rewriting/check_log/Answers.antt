@@ -19,8 +19,7 @@ pub loop-at-again : need.loop-at-again
 loop-at-again g c =
     let inv = c .loop-at .inv in
     let row = c .in-Ok .ensures tt in
-    let entry = c .in-Ok .entry in
-    (
+    let entry = c .in-Ok .entry in (
       omega (arith, row .on, inv .0),
       λ r rest.
           inv .1 r

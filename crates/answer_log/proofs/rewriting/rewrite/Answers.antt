@@ -37,8 +37,7 @@ returns g c =
     let n = c .args .n in
     let bytes = c .args .bytes .now in
     let header = header-of M n bytes (c .in-rest .ensures tt) in
-    let put = c .in-rest-write-header .ensures tt .1 in
-    (
+    let put = c .in-rest-write-header .ensures tt .1 in (
       accepted (c .in-rest .ensures tt) (c .if-out-bytes .left),
       log-put M n bytes header (c .args .out .now) (c .write-header .last .out) _ put (c .if-out-bytes .left) (c .rewrite-rows .last .out) (c .rewrite-rows .ensures),
     )

@@ -68,8 +68,7 @@ loop-at-again g c =
     let whole : length ws ≡ 64 = search needs in
     let long : n ≤ length ws = omega (arith, row-count M n _ _ (row .reads .check)) in
     let fit : (i : ℕ) → getD bytes i 0 < 256 = λ i. c .typed .bytes i .fits in
-    let front = c .loop-at .inv .2 in
-    (
+    let front = c .loop-at .inv .2 in (
       omega (arith, row .on, c .loop-at .inv .0),
       row .within,
       cut-put M L n _ bytes fit at ws f next row long (c .args .out .now) (c .loop-at .out) (c .put-row .last .out) front (c .pre .room) (c .put-row .ensures),

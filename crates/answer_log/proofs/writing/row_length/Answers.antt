@@ -1,5 +1,4 @@
 -- Answers for `row_length`: the parts of a row.
-use mathlib.Core.Path.{sym, ap, _∙_}
 use native.Mathlib.Omega.{arith}
 use lib.ListN.{length}
 use Rattle.field.specs.Sums.{weights-of}
@@ -10,5 +9,4 @@ pub returns : need.returns
 returns g c f =
     let ws = c .args .weights .now in
     let all = row-size (g .F·Field .model) (length ws) (weights-of ws) f in
-    let q1 = c in
     omega (arith, c .map-length .ensures, c .stored-length .ensures .is, c .element-width .ensures)

@@ -1,5 +1,5 @@
 -- Answers for `write_header`: which check failed, or the two bytes.
-use mathlib.Core.Path.{refl, sym, ap, ap₂, _∙_}
+use mathlib.Core.Path.{refl, ap, _∙_}
 use mathlib.Core.Logic.{⊎-elim}
 use mathlib.Core.List.{_∷_}
 use native.Mathlib.Omega.{arith}
@@ -17,8 +17,7 @@ returns-then-out-lt2 g c = (log-full (omega arith, omega arith) (omega arith), r
 pub returns : need.returns
 returns g c =
     let o = c .args .out .now in
-    let two = drop-more o 0 0 (omega arith) ∙ ap (λ xs. getD o 0 0 ∷ xs) (drop-more o 1 0 (omega arith)) in
-    (
+    let two = drop-more o 0 0 (omega arith) ∙ ap (λ xs. getD o 0 0 ∷ xs) (drop-more o 1 0 (omega arith)) in (
       accepted (omega arith, omega arith) (omega arith),
       record {
         count = refl;
