@@ -11,8 +11,8 @@ use crate::tally::admitted_alike;
 use crate::tally::judged_alike;
 use field::Element;
 use field::Field;
-use record::NoRecord;
 use record::Record;
+use record::Room;
 use refusal::Member;
 use std::io;
 
@@ -109,11 +109,8 @@ pub(crate) fn all<F: Field>(rt: &LibcRuntime, field: &str, play: Play) -> io::Re
     let mut dice = Dice(u64::from(F::kind()));
     let mut tally = Tally::nothing();
     for _ in 0..play.rounds {
-        match Record::<F>::new(rt.alloc(), play.members as usize) {
-            Ok(mut rec) => round(rt, &mut dice, &mut rec, play, &mut tally)?,
-            Err(NoRecord::Refused(_)) => println!(rt, "no record: refused")?,
-            Err(NoRecord::NoMemory(_)) => println!(rt, "no record: no memory")?,
-        }
+        let mut rec = Record::<F>::new(Room::new(rt.alloc())?, play.members as usize);
+        round(rt, &mut dice, &mut rec, play, &mut tally)?;
     }
     tally.show(rt, field, play.members as usize)
 }

@@ -1,0 +1,4 @@
+pub mod Rows
+pub mod Entries
+pub mod Writes
+pub mod Logs
