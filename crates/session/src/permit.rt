@@ -35,8 +35,9 @@ impl Permit {
         ensures same { λ _. ⌜ now (self .exit) .number ≡ now (self .entry) .number ⌝ }
         ensures spent { λ _. ⌜ now (self .exit) .spent ≡ true ⌝ }
     {
+        let number = self.number;
         self.spent = true;
-        self.number
+        number
     }
 
     // By its number a permit is told in other sessions, and in a list of calls.
