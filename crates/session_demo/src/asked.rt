@@ -1,4 +1,6 @@
 // The survey by single calls: rows that are answered, and one that is only tried.
+use crate::clients::ask_once;
+use crate::clients::try_once;
 use crate::show;
 use field::Element;
 use record::Room;
@@ -6,8 +8,6 @@ use refusal::Refusal;
 use server::Array;
 use server::ArrayServer;
 use session::Session;
-use session::ask_once;
-use session::try_once;
 use std::io;
 use ticks::Ticks;
 use ticks::TicksField;

@@ -2,6 +2,7 @@
 use std::io;
 
 mod asked;
+mod clients;
 mod listed;
 mod show;
 

@@ -1,14 +1,14 @@
 // Two clients of a session: one has a row answered, one tries a row and takes it back.
 ghost use mathlib.Core.Path.{_≡_};
 ghost use lib.ListN.{length};
 ghost use Rattle.session.specs.Views.{Sound};
-use crate::session::Session;
 use field::Element;
 use refusal::Refusal;
 use server::Server;
+use session::Session;
 
 // Submits a row, and answers it where it is granted.
-pub fn ask_once<S: Server>(
+pub(crate) fn ask_once<S: Server>(
     session: &mut Session<S>,
     weights: &[Element],
 ) -> Result<Element, Refusal>
@@ -23,7 +23,10 @@ pub fn ask_once<S: Server>(
 }
 
 // Submits a row, and withdraws it where it is granted: whether it would be.
-pub fn try_once<S: Server>(session: &mut Session<S>, weights: &[Element]) -> Result<(), Refusal>
+pub(crate) fn try_once<S: Server>(
+    session: &mut Session<S>,
+    weights: &[Element],
+) -> Result<(), Refusal>
     requires sound { ⌜ Sound (Over·Field .model) (length (S·Server .table (now session .server))) (now session) ⌝ }
     ensures sound { λ _. ⌜ Sound (Over·Field .model) (length (S·Server .table (now (session .entry) .server))) (now (session .exit)) ⌝ }
     ensures server { λ _. ⌜ now (session .exit) .server ≡ now (session .entry) .server ⌝ }
