@@ -21,7 +21,7 @@ use field::Field;
 use refusal::Member;
 
 // What is left over, made 1 at its lowest named member, which is its pivot; none where nothing is left.
-pub fn with_pivot<F: Field>(left: &FiguredRow, n: usize) -> Option<RecordRow>
+fn with_pivot<F: Field>(left: &FiguredRow, n: usize) -> Option<RecordRow>
     requires few { ⌜ n ≤ 64 ⌝ }
     ensures { λ r. ⌜ Cases r ((m : ℕ) → m < n → weights-of (now (left .entry) .weights) m ≡ 0) (λ e. (e .pivot .0 < n) × (weights-of (now (left .entry) .weights) (e .pivot .0) ≢ 0) × ((m : ℕ) → m < e .pivot .0 → weights-of (now (left .entry) .weights) m ≡ 0) × SameRow n (figured-row (e .row)) (scaled model (model .inverse (weights-of (now (left .entry) .weights) (e .pivot .0))) (figured-row (now (left .entry)))) × CodedRow model n (figured-row (e .row))) ⌝ }
 {
