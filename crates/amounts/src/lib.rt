@@ -1,4 +1,6 @@
 // Amounts: the field of the numbers modulo the prime 65521, kind 1.
+#![tactic(auto)]
+
 ghost use Rattle.std.specs.Prelude.{◌≡◌, ◌%◌, ◌<◌, ◌&&◌, nat_lt};
 ghost use Rattle.amounts.specs.Prime.{amounts};
 ghost use Rattle.amounts.specs.Laws;

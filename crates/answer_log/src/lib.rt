@@ -1,4 +1,6 @@
 // The answer log: its header and its rows, written and read.
+#![tactic(auto)]
+
 mod parts;
 mod reading;
 mod rewriting;

@@ -1,4 +1,6 @@
 // The lines that a replay prints: answers, refusals, stops.
+#![tactic(auto)]
+
 mod answers;
 mod laws;
 mod lines;

@@ -1,4 +1,6 @@
 // Writing to the front of a lent buffer: bytes, and numbers in decimal.
+#![tactic(auto)]
+
 ghost use Rattle.std.specs.Prelude.{◌≡◌, ◌<◌, ◌≤◌, length, decimal};
 ghost use Rattle.buffer.specs.Buffers.{onto, Writes};
 

@@ -1,4 +1,6 @@
 // Says of the table file `table.dat` what it holds, or why it is refused.
+#![tactic(auto)]
+
 use amounts::Amounts;
 use field::Field;
 use std::{fs, io};

@@ -1,4 +1,6 @@
 // The theory of the record: reduced echelon form over every field. Each function stands for the theorem in its contract.
+#![tactic(auto)]
+
 ghost use Rattle.echelon.specs.Theorems.{PinnedAlone, BaseFits, DirectionFree, WitnessFits, AtMostOne, FixedLeavesNothing, LeftoverFits, JoinedForm, FormAgrees, FormKept, FormGrown, OneForm, SameFits};
 
 pub fn pinned_alone()

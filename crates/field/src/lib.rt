@@ -1,4 +1,6 @@
 // What a field is, for all that is written once over every field: its elements, its operations and their laws.
+#![tactic(auto)]
+
 ghost use Rattle.std.specs.Prelude.{◌≡◌, ℕ, ◌+◌, ◌<◌, ◌≤◌, ◌++◌, length, drop, MatchOption, slice_index};
 ghost use Rattle.field.specs.Model.{FieldModel, FieldLaws};
 ghost use Rattle.field.specs.Bytes.{width, written, code_at};

@@ -1,4 +1,6 @@
 // The law of a session's history, and the theorems that hold of every lawful one. Each function stands for its contract.
+#![tactic(auto)]
+
 ghost use Rattle.history.specs.Theorems.{JudgingIsExact, EveryValueStaysPossible, ValuesAreNotSeen, OneReplyIsDue};
 
 pub fn judging_is_exact()

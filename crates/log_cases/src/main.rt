@@ -1,4 +1,6 @@
 // Worked cases of logs: prints a line for each, with its answer, and what becomes of a session that is resumed.
+#![tactic(auto)]
+
 use std::io;
 
 mod amounts_logs;

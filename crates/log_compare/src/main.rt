@@ -1,4 +1,6 @@
 // Generated logs: each is read back, compared with what was written, written again, and damaged.
+#![tactic(auto)]
+
 use amounts::Amounts;
 use std::io;
 use ticks::Ticks;

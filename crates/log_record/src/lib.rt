@@ -1,4 +1,6 @@
 // A log read into a record: its rows join with the figures that stand in the log.
+#![tactic(auto)]
+
 mod joining;
 mod reading;
 mod rewriting;

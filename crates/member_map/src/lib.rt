@@ -1,4 +1,6 @@
 // Member maps, as table files and logs have them: a bit for each member. A map may have other bytes after it.
+#![tactic(auto)]
+
 ghost use Rattle.std.specs.Prelude.{◌≡◌, ℕ, ◌<◌, MatchOption};
 ghost use Rattle.member_map.specs.Maps.{map_length_lem, named, named_below, Stray};
 

@@ -1,4 +1,6 @@
 // Query text: reading one line of it as a request, or finding its first fault.
+#![tactic(auto)]
+
 mod faults;
 mod items;
 mod laws;

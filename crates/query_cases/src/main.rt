@@ -1,4 +1,6 @@
 // Lines of query text, faulty and whole: prints a line for each, with what it wants or its first fault.
+#![tactic(auto)]
+
 use std::io;
 
 mod accepted;

@@ -1,4 +1,6 @@
 // The record: the reduced echelon form of the answered rows, what it fixes, what would pin a member, and the witness.
+#![tactic(auto)]
+
 mod judge;
 mod record;
 mod room;

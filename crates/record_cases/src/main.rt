@@ -1,4 +1,6 @@
 // Worked cases of the record: prints a line for each, with its answer.
+#![tactic(auto)]
+
 use std::io;
 
 mod ask;

@@ -1,4 +1,6 @@
 // Generated rows: what the record says of each is compared with a plain computation from scratch.
+#![tactic(auto)]
+
 use amounts::Amounts;
 use std::io;
 use ticks::Ticks;

@@ -1,4 +1,6 @@
 // The one list of refusals, and the sorts of number that come with them.
+#![tactic(auto)]
+
 ghost use Rattle.std.specs.Prelude.{◌≡◌};
 ghost use Rattle.refusal.specs.Numbered.{number, detail, place};
 

@@ -1,4 +1,6 @@
 // Replays the query text of standard input over the table of the file `table.dat`, and prints the answers.
+#![tactic(auto)]
+
 use std::io::Read;
 use std::{fs, io};
 

@@ -1,4 +1,6 @@
 // Worked replays, and replays at every limit: prints what each answers, prints and logs.
+#![tactic(auto)]
+
 use std::io;
 
 mod limits;

@@ -1,4 +1,6 @@
 // The replay of query text: a text goes in, audited answers and the log come out.
+#![tactic(auto)]
+
 mod lines;
 mod outcome;
 mod replays;

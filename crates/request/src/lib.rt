@@ -1,4 +1,6 @@
 // One line of query text, read and carried out on a session.
+#![tactic(auto)]
+
 mod calls;
 mod faults;
 mod outcome;

@@ -1,4 +1,6 @@
 // Servers: what the survey asks for its members' elements. Three makes of server, and the sum of a row over any of them.
+#![tactic(auto)]
+
 ghost use Rattle.std.specs.Prelude.{◌≡◌, ℕ, ◌<◌, ◌≤◌, min, max, List, length, MatchOption, slice_index};
 ghost use Rattle.field.specs.Sums.{sum, weights_of};
 ghost use Rattle.server.specs.Tables.{Table, value_at, bounded, element_or_zero_lem};

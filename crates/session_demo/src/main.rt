@@ -1,4 +1,6 @@
 // A survey of three shops, from the first row asked to the last: prints each call of a session, with its reply.
+#![tactic(auto)]
+
 use std::io;
 
 mod asked;

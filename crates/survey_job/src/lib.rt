@@ -1,5 +1,7 @@
 // The job of the program `replay`, as a function on values: a table file and a query text go in, what is printed and
 // the log come out.
+#![tactic(auto)]
+
 mod jobs;
 mod lines;
 mod replays;

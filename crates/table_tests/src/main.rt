@@ -1,4 +1,6 @@
 // Tests of fields, servers and table files: prints a line for each case, with its answer.
+#![tactic(auto)]
+
 use std::io;
 
 mod elements;

@@ -1,4 +1,6 @@
 // The field of ticks: bytes, added by exclusive or and multiplied as polynomials modulo 0x11B.
+#![tactic(auto)]
+
 ghost use Rattle.std.specs.Prelude.{◌≢◌, ◌≡◌, ℕ, ◌%◌, ◌<◌};
 ghost use Rattle.std.specs.Int.Bits.{bit_xor};
 ghost use Rattle.ticks.specs.Polynomials.{product, raised, ticks_field};
