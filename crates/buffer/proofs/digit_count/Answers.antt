@@ -3,8 +3,8 @@ use Rattle.std.proofs.Common.{◌^◌, ◌<◌, arith}
 use Rattle.buffer.proofs.Digits.{one_digit, digit_more, few-digits, five_digits}
 use Rattle.buffer.proofs.digit_count.Goals as goal
 
-pub overflow-add-count : goal.overflow-add-count
-overflow-add-count c =
+pub overflow_add-count : goal.overflow_add-count
+overflow_add-count c =
     let fits : c.args.value < 2 ^ 64 = omega arith in
     let few = few-digits c.args.value fits in
     let inv = c.loop-rest.invariant.0 in

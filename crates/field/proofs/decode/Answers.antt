@@ -18,7 +18,7 @@ returns g c =
     let bs = c.args.bytes.now in
     let at = c.args.at in
     let two : leb g.F.Field.model.size 256 ≡ false = lt-leb _ _ (omega arith) in
-    let low : c.byte-at.result ≡ get_or bs (at + 1) 0 =
-    c.byte-at.ensures.is ∙ ap (λ i. get_or bs i 0) c.saturating-add.ensures ∙ next_byte bs at 18446744073709551615 (omega arith) in
-    ap₂ (λ x y. x * 256 + y) c.byte-at-first.ensures.is low
+    let low : c.byte_at.result ≡ get_or bs (at + 1) 0 =
+    c.byte_at.ensures.is ∙ ap (λ i. get_or bs i 0) c.saturating_add.ensures ∙ next_byte bs at 18446744073709551615 (omega arith) in
+    ap₂ (λ x y. x * 256 + y) c.byte_at-first.ensures.is low
     ∙ ap (λ b. by_width b (get_or bs at 0) (get_or bs at 0 * 256 + get_or bs (at + 1) 0)) (sym two)
