@@ -9,7 +9,7 @@ use std::io;
 
 // A member's value unless it is 0. A table file stores these, and no others.
 fn stored<S: Server>(server: &S, m: Member) -> Option<Element>
-    ensures { MatchOption result (value_at (table server.now) m.0 ≡ 0) (λ e. (e.0 ≡ value_at (table server.now) m.0) × (e.0 ≢ 0)) }
+    ensures { MatchOption result (value_at (S.table server.now) m.0 ≡ 0) (λ e. (e.0 ≡ value_at (S.table server.now) m.0) × (e.0 ≢ 0)) }
 {
     match server.value(m) {
         Some(value) => {

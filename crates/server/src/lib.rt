@@ -31,7 +31,7 @@ pub trait Server {
 
 // The weighted sum of a row over the server's table, asking it for the named members only.
 pub fn row_sum<S: Server>(server: &S, row: &[Element]) -> Element
-    ensures is { result.0 ≡ sum S.Over.Field.model (length (table server.now)) (weights_of row.now) (value_at (table server.now)) }
+    ensures is { result.0 ≡ sum S.Over.Field.model (length (S.table server.now)) (weights_of row.now) (value_at (S.table server.now)) }
     ensures within { result.0 < S.Over.Field.model.size }
 {
     let members = server.count();

@@ -6,7 +6,7 @@ use Rattle.field.proofs.Zero.{zero-code}
 use Rattle.server.specs.Tables.{value_at}
 use Rattle.server.proofs.Sums.{sum_more, sum_unnamed, sum_past}
 use Rattle.server.proofs.row_sum.Goals as goal
-use Rattle.server.proofs.row_sum.Goals.{then-weight-ne0+in-Some, then-weight-ne0+in-default, else-weight-ne0}
+use Rattle.server.proofs.row_sum.Goals.{then-weight-ne0+in-Some, then-weight-ne0+in_default, else-weight-ne0}
 
 pub loop-weight-init : goal.loop-weight-init
 unfolding sum
@@ -30,13 +30,13 @@ loop-weight-preserved g c =
     elim c.if-weight-ne0.branch [
       | then-weight-ne0+in-Some v ↦
           let is = v.total-is in
-          let within : c.if-weight-ne0.total.0 < M.size = rw is v.add_total.ensures.within in
+          let within : c.if-weight-ne0.total.0 < M.size = rw is v.add-total.ensures.within in
           let added : c.if-weight-ne0.total.0 ≡ M.plus (sum M m w t) (M.times (w m) (t m)) =
-          ap (λ e. e.0) is ∙ v.add_total.ensures.is
+          ap (λ e. e.0) is ∙ v.add-total.ensures.is
           ∙ ap (λ x. M.plus x v.mul.result.0) inv.3
           ∙ ap (M.plus (sum M m w t)) (v.mul.ensures.is ∙ ap (M.times _) v.in-Some.ensures.1 ∙ ap (λ x. M.times x (t m)) (sym weight))
           in (omega arith, more, within, added ∙ sym (sum_more M L w t m))
-      | then-weight-ne0+in-default v ↦ absurd (omega (arith, v.in-default.ensures))
+      | then-weight-ne0+in_default v ↦ absurd (omega (arith, v.in_default.ensures))
       | else-weight-ne0 v ↦
           let unnamed : w m ≡ 0 = weight ∙ v.if-weight-ne0.false in
           let is : c.if-weight-ne0.total.0 ≡ sum M m w t = ap (λ e. e.0) v.total-is ∙ inv.3 in

@@ -10,8 +10,8 @@ loop-rest-init c =
     let less : a < 65521 = mod-lt c.args.a.0 (omega arith) in
     (less, omega arith, ap (λ x. x % 65521) (mul-one a) ∙ mod-eq_of_lt less, λ e. e)
 
-pub overflow-mul-factor : goal.overflow-mul-factor
-overflow-mul-factor c =
+pub overflow_mul-factor : goal.overflow_mul-factor
+overflow_mul-factor c =
     let product = mul-lt c.from.result c.from-in-loop-rest.result 65521 65522 (omega arith) (omega arith) in
     omega arith
 

@@ -8,18 +8,18 @@ pub returns-then-not-stands : goal.returns-then-not-stands
 returns-then-not-stands c =
     sym (spaced_none _ c.args.line.now c.args.at.0 (sym c.stands.ensures ∙ c.if-not-stands.true))
 
-pub overflow-add-at : goal.overflow-add-at
-overflow-add-at c =
+pub overflow_add-at : goal.overflow_add-at
+overflow_add-at c =
     let h = stands-within c.args.line.now c.args.at.0 32 (sym c.stands.ensures ∙ c.if-not-stands.false) in search rules
 
-pub returns-in-err-read-number : goal.returns-in-err-read-number
-returns-in-err-read-number c =
-    let p = err_from_is_err_and c.from-residual.result c.from-residual.ensures.1 in
+pub returns-in_err-read_number : goal.returns-in_err-read_number
+returns-in_err-read_number c =
+    let p = err_from_is_err_and c.from_residual.result c.from_residual.ensures.1 in
     rw (p.1, p.2)
     (sym (spaced-some c.args.limit c.args.line.now c.args.at.0 (sym c.stands.ensures ∙ c.if-not-stands.false)
-    ∙ ap of_item (sym c.read-number.ensures ∙ c.in-err-read-number.was)))
+    ∙ ap of_item (sym c.read_number.ensures ∙ c.in_err-read_number.was)))
 
 pub returns : goal.returns
 returns c =
     sym (spaced-some c.args.limit c.args.line.now c.args.at.0 (sym c.stands.ensures ∙ c.if-not-stands.false)
-    ∙ ap of_item (sym c.read-number.ensures ∙ c.in-ok-read-number.was))
+    ∙ ap of_item (sym c.read_number.ensures ∙ c.in_ok-read_number.was))

@@ -9,10 +9,10 @@ more :
     × (length (digits (drop c.loop-end.end c.args.line.now)) ≡ suc (length (digits (drop (c.loop-end.end + 1) c.args.line.now))))
 more c =
     digit_more c.args.line.now c.loop-end.end
-    (ap is_ok (sym c.read_digit.ensures) ∙ sym c.is-ok.ensures.value ∙ c.loop-end-test.true)
+    (ap is_ok (sym c.read_digit.ensures) ∙ sym c.is_ok.ensures.value ∙ c.loop-end-test.true)
 
-pub overflow-add-end : goal.overflow-add-end
-overflow-add-end c = let h = (more c).0 in search rules
+pub overflow_add-end : goal.overflow_add-end
+overflow_add-end c = let h = (more c).0 in search rules
 
 pub loop-end-smaller : goal.loop-end-smaller
 loop-end-smaller c = let h = (more c).0 in omega arith

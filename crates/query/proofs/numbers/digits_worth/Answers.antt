@@ -4,16 +4,16 @@ use Rattle.std.proofs.lemmas.List.{at_drop_all}
 use Rattle.query.proofs.Digits.{digit_here, fixed-next, worth-next, worth_room}
 use Rattle.query.proofs.numbers.digits_worth.Goals as goal
 
-pub overflow-mul-value : goal.overflow-mul-value
-overflow-mul-value c =
+pub overflow_mul-value : goal.overflow_mul-value
+overflow_mul-value c =
     let r = worth_room c.args.text.now c.loop-b.b-index c.loop-b.value c.loop-b-test.true c.loop-b.invariant.1 in
     let e = c.loop-b.invariant.0 in let f = c.requires.few in let h : c.loop-b.value * 10 < 100000 = omega arith in search rules
 
-pub overflow-sub-b : goal.overflow-sub-b
-overflow-sub-b c = digit_here c.args.text.now c.loop-b.b-index c.loop-b.value c.loop-b-test.true c.loop-b.invariant.1
+pub overflow_sub-b : goal.overflow_sub-b
+overflow_sub-b c = digit_here c.args.text.now c.loop-b.b-index c.loop-b.value c.loop-b-test.true c.loop-b.invariant.1
 
-pub overflow-add-value : goal.overflow-add-value
-overflow-add-value c =
+pub overflow_add-value : goal.overflow_add-value
+overflow_add-value c =
     let r = worth_room c.args.text.now c.loop-b.b-index c.loop-b.value c.loop-b-test.true c.loop-b.invariant.1 in
     let e = c.loop-b.invariant.0 in let f = c.requires.few in let x = c.from.ensures in let h : c.loop-b.value * 10 + c.from.result < 100000 = omega arith in search rules
 

@@ -16,51 +16,51 @@ tested :
 tested line at end first t v e h k =
     let n : end - at ≡ length (digits (drop at line)) = omega arith in ap (λ j. eqb first 0 && ltb 1 j) (sym n) ∙ sym h ∙ k
 
-pub returns-in-err-first : goal.returns-in-err-first
-returns-in-err-first c =
-    let p = err_from_is_err_and c.from-residual.result c.from-residual.ensures.1 in
-    rw (p.1, p.2) (number_none _ _ c.args.line.now c.args.at.0 _ (sym c.read_digit.ensures ∙ c.in-err-first.was))
+pub returns-in_err-first : goal.returns-in_err-first
+returns-in_err-first c =
+    let p = err_from_is_err_and c.from_residual.result c.from_residual.ensures.1 in
+    rw (p.1, p.2) (number_none _ _ c.args.line.now c.args.at.0 _ (sym c.read_digit.ensures ∙ c.in_err-first.was))
 
-pub returns-then-leading-zero : goal.returns-then-leading-zero
-returns-then-leading-zero c =
-    number-zero _ _ c.args.line.now c.args.at.0 c.in-ok-first.first
-    (sym c.read_digit.ensures ∙ c.in-ok-first.was)
-    (tested _ _ _ _ _ _ c.digits-end-end.ensures c.leading-zero.ensures c.if-leading-zero.true)
+pub returns-then-leading_zero : goal.returns-then-leading_zero
+returns-then-leading_zero c =
+    number-zero _ _ c.args.line.now c.args.at.0 c.in_ok-first.first
+    (sym c.read_digit.ensures ∙ c.in_ok-first.was)
+    (tested _ _ _ _ _ _ c.digits_end-end.ensures c.leading_zero.ensures c.if-leading_zero.true)
 
 pub returns-then-end-start-gt5 : goal.returns-then-end-start-gt5
 returns-then-end-start-gt5 c =
-    let e = c.digits-end-end.ensures in
-    number_long _ _ c.args.line.now c.args.at.0 c.in-ok-first.first
-    (sym c.read_digit.ensures ∙ c.in-ok-first.was)
-    (tested _ _ _ _ _ _ c.digits-end-end.ensures c.leading-zero.ensures c.if-leading-zero.false) (omega arith)
+    let e = c.digits_end-end.ensures in
+    number_long _ _ c.args.line.now c.args.at.0 c.in_ok-first.first
+    (sym c.read_digit.ensures ∙ c.in_ok-first.was)
+    (tested _ _ _ _ _ _ c.digits_end-end.ensures c.leading_zero.ensures c.if-leading_zero.false) (omega arith)
 
-pub slice-bounds-digits-worth-end : goal.slice-bounds-digits-worth-end
-slice-bounds-digits-worth-end c =
-    let e = c.digits-end-end.ensures in
-    let h = number-within 0 0 c.args.line.now c.args.at.0 c.in-ok-first.first (sym c.read_digit.ensures ∙ c.in-ok-first.was) in
+pub slice_bounds-digits_worth-end : goal.slice_bounds-digits_worth-end
+slice_bounds-digits_worth-end c =
+    let e = c.digits_end-end.ensures in
+    let h = number-within 0 0 c.args.line.now c.args.at.0 c.in_ok-first.first (sym c.read_digit.ensures ∙ c.in_ok-first.was) in
     search rules
 
-pub digits-worth-value-requires : goal.digits-worth-value-requires
-digits-worth-value-requires c =
-    let e = part _ _ _ c.digits-end-end.ensures in
-    let n = c.digits-end-end.ensures in
+pub digits_worth-value-requires : goal.digits_worth-value-requires
+digits_worth-value-requires c =
+    let e = part _ _ _ c.digits_end-end.ensures in
+    let n = c.digits_end-end.ensures in
     let short : length (digits (drop c.args.at.0 c.args.line.now)) ≤ 5 = omega arith in
     let here : List ℕ = drop c.args.at.0 c.args.line.now in
     rw e (record { all = digits-digits here; few = worth-short here short })
 
 pub returns-then-value-least : goal.returns-then-value-least
 returns-then-value-least c =
-    let n = c.digits-end-end.ensures in
-    number_out _ _ c.args.line.now c.args.at.0 c.in-ok-first.first
-    (sym c.read_digit.ensures ∙ c.in-ok-first.was) c.digits-worth-value.result
-    (tested _ _ _ _ _ _ c.digits-end-end.ensures c.leading-zero.ensures c.if-leading-zero.false) (omega arith)
-    (c.digits-worth-value.ensures ∙ ap (worth 0) (part _ _ _ c.digits-end-end.ensures)) c.then-value-least.either
+    let n = c.digits_end-end.ensures in
+    number_out _ _ c.args.line.now c.args.at.0 c.in_ok-first.first
+    (sym c.read_digit.ensures ∙ c.in_ok-first.was) c.digits_worth-value.result
+    (tested _ _ _ _ _ _ c.digits_end-end.ensures c.leading_zero.ensures c.if-leading_zero.false) (omega arith)
+    (c.digits_worth-value.ensures ∙ ap (worth 0) (part _ _ _ c.digits_end-end.ensures)) c.then-value-least.either
 
 pub returns : goal.returns
 returns c =
-    let n = c.digits-end-end.ensures in
-    number_in _ _ c.args.line.now c.args.at.0 c.in-ok-first.first
-    (sym c.read_digit.ensures ∙ c.in-ok-first.was) c.digits-worth-value.result
-    (tested _ _ _ _ _ _ c.digits-end-end.ensures c.leading-zero.ensures c.if-leading-zero.false) (omega arith)
-    (c.digits-worth-value.ensures ∙ ap (worth 0) (part _ _ _ c.digits-end-end.ensures)) c.digits-end-end.result
-    c.digits-end-end.ensures (omega arith) (omega arith)
+    let n = c.digits_end-end.ensures in
+    number_in _ _ c.args.line.now c.args.at.0 c.in_ok-first.first
+    (sym c.read_digit.ensures ∙ c.in_ok-first.was) c.digits_worth-value.result
+    (tested _ _ _ _ _ _ c.digits_end-end.ensures c.leading_zero.ensures c.if-leading_zero.false) (omega arith)
+    (c.digits_worth-value.ensures ∙ ap (worth 0) (part _ _ _ c.digits_end-end.ensures)) c.digits_end-end.result
+    c.digits_end-end.ensures (omega arith) (omega arith)

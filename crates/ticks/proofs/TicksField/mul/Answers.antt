@@ -17,5 +17,5 @@ returns-then-x-eq0 c =
     made =
         elim c.then-x-eq0.either [
           | inl e ↦ sym (ap (λ x. product x c.low-y.result) e ∙ zero-product c.low-y.result)
-          | inr e ↦ sym (ap (product c.low-x.result) e.1 ∙ product-zero c.low-x.result c.low-x.type-inv)
+          | inr e ↦ sym (ap (product c.low-x.result) e.1 ∙ product-zero c.low-x.result c.low-x.type_inv)
         ]

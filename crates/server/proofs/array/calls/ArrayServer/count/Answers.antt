@@ -9,6 +9,6 @@ returns g c =
     let M = g.F.Field.model in
     let es = codes c.args.self.now.elements.now in
     record {
-      is = c.bounded-count.ensures ∙ ap bounded (sym (length-map _ _)) ∙ sym (listed-length M (length es) (value_at es));
+      is = c.bounded_count.ensures ∙ ap bounded (sym (length-map _ _)) ∙ sym (listed-length M (length es) (value_at es));
       lawful = listed-table M (length es) (value_at es) g.met.F.Field.laws;
     }
