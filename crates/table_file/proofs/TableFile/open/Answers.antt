@@ -4,5 +4,5 @@ use Rattle.table_file.proofs.TableFile.open.Goals as goal
 
 pub returns : goal.returns
 returns g c =
-    let fine = c.in-default-values.ensures in
+    let fine = c.in_default-values.ensures in
     (fine, means g.F.Field.model c.args.bytes.now g.met.F.Field.laws fine)

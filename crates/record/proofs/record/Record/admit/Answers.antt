@@ -8,19 +8,19 @@ use Rattle.record.proofs.Verdict.{row_length_lem, row-codes, judged-pinning, jud
 use Rattle.record.proofs.Admitting.{kept-adds, fixed-row, fresh_facts, joined-reduced, joined_none_alone, after_reduced, after_fits, after_adds}
 use Rattle.record.proofs.record.Record.admit.Goals as goal
 
-pub returns-in-err-check-row : goal.returns-in-err-check-row
-returns-in-err-check-row g c =
-    let p = err_from_is_err_and c.from-residual.result c.from-residual.ensures.1 in
-    rw (p.1, p.2) (record { admitted = bad_row _ c.in-err-check-row.ensures refl; sound = c.requires.sound; count = refl })
+pub returns-in_err-check_row : goal.returns-in_err-check_row
+returns-in_err-check_row g c =
+    let p = err_from_is_err_and c.from_residual.result c.from_residual.ensures.1 in
+    rw (p.1, p.2) (record { admitted = bad_row _ c.in_err-check_row.ensures refl; sound = c.requires.sound; count = refl })
 
 pub returns-then-figure-size : goal.returns-then-figure-size
 returns-then-figure-size g c =
-    record { admitted = no_figure c.in-ok-check-row.ensures (omega arith) refl; sound = c.requires.sound; count = refl }
+    record { admitted = no_figure c.in_ok-check_row.ensures (omega arith) refl; sound = c.requires.sound; count = refl }
 
 pub assess-requires : goal.assess-requires
 assess-requires g c =
     let M = g.F.Field.model in
-    let passed = c.in-ok-check-row.ensures in
+    let passed = c.in_ok-check_row.ensures in
     record { sound = c.requires.sound; length = row_length_lem M _ _ passed; coded = (row-codes M _ _ passed, omega arith) }
 
 pub join-requires : goal.join-requires
@@ -31,12 +31,12 @@ join-requires g c =
     let R = reduced_of M r c.requires.sound in
     let ws = c.args.weights.now in
     let f = c.args.figure.0 in
-    let passed = c.in-ok-check-row.ensures in
+    let passed = c.in_ok-check_row.ensures in
     let figure : f < M.size = omega arith in
     let coded : CodedRow M r.count (given_row ws f) = (row-codes M _ _ passed, figure) in
     let x = c.in-Fresh.row in
     let facts = fresh_facts M r.count (rec_of r) (given_row ws f) x c.in-Fresh.ensures in
-    let k = c.place-of-k.ensures in
+    let k = c.place_of-k.ensures in
     record {
       sound = c.requires.sound;
       place = k.within;
@@ -54,7 +54,7 @@ returns-in-Fixed g c =
     let R = reduced_of M r c.requires.sound in
     let ws = c.args.weights.now in
     let f = c.args.figure.0 in
-    let passed = c.in-ok-check-row.ensures in
+    let passed = c.in_ok-check_row.ensures in
     let figure : f < M.size = omega arith in
     let coded : CodedRow M r.count (given_row ws f) = (row-codes M _ _ passed, figure) in
     let fixes = fixed-row M L r.count (rec_of r) R (given_row ws f) coded _ c.in-Fixed.ensures in
@@ -68,7 +68,7 @@ returns-in-Pinning g c =
     let R = reduced_of M r c.requires.sound in
     let ws = c.args.weights.now in
     let f = c.args.figure.0 in
-    let passed = c.in-ok-check-row.ensures in
+    let passed = c.in_ok-check_row.ensures in
     let figure : f < M.size = omega arith in
     let coded : CodedRow M r.count (given_row ws f) = (row-codes M _ _ passed, figure) in
     record {
@@ -85,12 +85,12 @@ returns-in-Fresh g c =
     let R = reduced_of M r c.requires.sound in
     let ws = c.args.weights.now in
     let f = c.args.figure.0 in
-    let passed = c.in-ok-check-row.ensures in
+    let passed = c.in_ok-check_row.ensures in
     let figure : f < M.size = omega arith in
     let coded : CodedRow M r.count (given_row ws f) = (row-codes M _ _ passed, figure) in
     let x = c.in-Fresh.row in
     let facts = fresh_facts M r.count (rec_of r) (given_row ws f) x c.in-Fresh.ensures in
-    let k = c.place-of-k.ensures in
+    let k = c.place_of-k.ensures in
     let after = rec_of c.join.new.self in
     let same = c.join.ensures.is in
     let size = c.join.ensures.count in

@@ -7,13 +7,13 @@ use Rattle.record.proofs.Views.{reduced_of}
 use Rattle.record.proofs.Standing.{left_of, fresh-same, own-one, others_zero, lowest_pinned, none_pinned}
 use Rattle.record.proofs.record.Record.assess.Goals as goal
 
-pub returns-in-default : goal.returns-in-default
-returns-in-default g c =
+pub returns-in_default : goal.returns-in_default
+returns-in_default g c =
     let same = c.leftover-left.ensures.is in
-    fixed (λ m h. sym (same.rows m h) ∙ c.in-default.ensures m h) _ same.figures
+    fixed (λ m h. sym (same.rows m h) ∙ c.in_default.ensures m h) _ same.figures
 
-pub lowest-alone-requires : goal.lowest-alone-requires
-lowest-alone-requires g c =
+pub lowest_alone-requires : goal.lowest_alone-requires
+lowest_alone-requires g c =
     let M = g.F.Field.model in
     let L = g.met.F.Field.laws in
     let r = c.args.self.now in
@@ -32,8 +32,8 @@ lowest-alone-requires g c =
       others = others_zero M L r.count (rec_of r) R given c.requires.coded x left same;
     }
 
-pub returns-in-Some-lowest-alone : goal.returns-in-Some-lowest-alone
-returns-in-Some-lowest-alone g c =
+pub returns-in-Some-lowest_alone : goal.returns-in-Some-lowest_alone
+returns-in-Some-lowest_alone g c =
     let M = g.F.Field.model in
     let L = g.met.F.Field.laws in
     let r = c.args.self.now in
@@ -45,7 +45,7 @@ returns-in-Some-lowest-alone g c =
     let left = left_of M L r.count (rec_of r) R given c.requires.coded l c.leftover-left.ensures.is x.pivot.0 made.0 made.1 made.2 in
     let same = fresh-same M L r.count (rec_of r) R given c.requires.coded l c.leftover-left.ensures.is x made.0 made.3 in
     pinning x.pivot.0 left _
-    (lowest_pinned M L r.count (rec_of r) R given c.requires.coded x left same _ c.in-Some-lowest-alone.ensures)
+    (lowest_pinned M L r.count (rec_of r) R given c.requires.coded x left same _ c.in-Some-lowest_alone.ensures)
 
 pub returns-in-None : goal.returns-in-None
 returns-in-None g c =

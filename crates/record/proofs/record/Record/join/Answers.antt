@@ -15,13 +15,13 @@ use Rattle.record.proofs.Views.{rows-length}
 use Rattle.record.proofs.record.Record.join.Goals as goal
 use Rattle.record.proofs.record.Record.join.Goals.{After-insert}
 
-pub clear-rows-requires : goal.clear-rows-requires
-clear-rows-requires g c =
+pub clear_rows-requires : goal.clear_rows-requires
+clear_rows-requires g c =
     let r = c.args.self.now in
     record {
       few = r.members.1;
       pivot = c.requires.pivot;
-      by-coded = c.requires.coded;
+      by_coded = c.requires.coded;
       coded = λ a h. c.requires.sound a (simp length-map (omega arith));
     }
 
@@ -29,7 +29,7 @@ pub insert-requires : goal.insert-requires
 insert-requires g c =
     let r = c.args.self.now in
     let size : length (rec_of r) ≡ length (vec_items r.rows) = rows-length _ in
-    omega (arith, c.requires.place, c.clear-rows.ensures.len)
+    omega (arith, c.requires.place, c.clear_rows.ensures.len)
 
 -- the row went in
 went_in : (g : _) (c : After-insert g) → is_ok c.insert.result ≡ true
@@ -38,7 +38,7 @@ went_in g c =
     let r = c.args.self.now in
     let size : length (rec_of r) ≡ length (vec_items r.rows) = rows-length _ in
     let more = one_more M r.count (pivoted c.args.fresh) c.args.k.0 (rec_of r) c.requires.place c.requires.reduced in
-    c.insert.ensures.succeeds (omega (arith, c.clear-rows.ensures.len, c.clear-rows.ensures.cap, r.room, r.rows.ok.0))
+    c.insert.ensures.succeeds (omega (arith, c.clear_rows.ensures.len, c.clear_rows.ensures.cap, r.room, r.rows.ok.0))
 
 rows_after :
     (g : _) (c : After-insert g)
@@ -46,51 +46,37 @@ rows_after :
 rows_after g c =
     let M = g.F.Field.model in
     let r = c.args.self.now in
-    let rows₁ = vec_items c.clear-rows.new.rows in
+    let rows₁ = vec_items c.clear_rows.new.rows in
     let size : length (rec_of r) ≡ length (vec_items r.rows) = rows-length _ in
     let size₁ : length (all_pivoted rows₁) ≡ length rows₁ = rows-length _ in
     let items : vec_items c.insert.new.self ≡ insert rows₁ c.args.k.0 c.args.fresh =
     c.insert.ensures.items ∙ ap (λ b. cond b (insert rows₁ c.args.k.0 c.args.fresh) rows₁) (went_in g c) in
     subst (λ (l : List RecordRow). Same r.count (joined M (pivoted c.args.fresh) c.args.k.0 (rec_of r)) (all_pivoted l)) (sym items)
     (same-joined M r.count c.args.fresh (vec_items r.rows) rows₁
-    (omega (arith, c.clear-rows.ensures.len, c.clear-rows.new.rows.ok.0, r.rows.ok.0))
-    (λ a h. c.clear-rows.ensures.is a (omega (arith, r.rows.ok.0))) c.args.k.0 c.requires.place)
+    (omega (arith, c.clear_rows.ensures.len, c.clear_rows.new.rows.ok.0, r.rows.ok.0))
+    (λ a h. c.clear_rows.ensures.is a (omega (arith, r.rows.ok.0))) c.args.k.0 c.requires.place)
 
-pub invariant-of-self : goal.invariant-of-self
-invariant-of-self g c =
+pub invariant_of-self : goal.invariant_of-self
+invariant_of-self g c =
     let M = g.F.Field.model in
     let r = c.args.self.now in
-    let same = rows_after g c in
-    let R = same-reduced r.count _ _ same M c.requires.reduced in (
-      r.members,
-      (
-        R.pivot_below,
-        (
-          R.pivots_rise,
-          (
-            R.own_pivot,
-            (
-              (λ a m h. R.lowest_named a m h.0 h.1),
-              (
-                (λ a b h. R.other_pivots a b h.0 h.1 h.2),
-                (
-                  same_none_alone M r.count _ _ c.requires.reduced same c.requires.none_alone,
-                  (
-                    omega (arith, c.insert.ensures.capacity, c.clear-rows.ensures.cap, r.room),
-                    tt,
-                  ),
-                ),
-              ),
-            ),
-          ),
-        ),
-      ),
-    )
+    let same = rows_after g (goal.at.invariant_of-self g c).After-insert in
+    let R = same-reduced r.count _ _ same M c.requires.reduced in
+    record {
+      members = r.members;
+      pivots_below = R.pivot_below;
+      pivots_rise = R.pivots_rise;
+      own_pivot = R.own_pivot;
+      lowest_named = λ a m h. R.lowest_named a m h.0 h.1;
+      other_pivots = λ a b h. R.other_pivots a b h.0 h.1 h.2;
+      none_alone = same_none_alone M r.count _ _ c.requires.reduced same c.requires.none_alone;
+      room = omega (arith, c.insert.ensures.capacity, c.clear_rows.ensures.cap, r.room);
+    }
 
 pub unreachable-requires : goal.unreachable-requires
 unreachable-requires g c =
     let ok = went_in g (goal.at.unreachable-requires g c).After-insert in
-    clash (sym c.if-is-err.ensures.negation ∙ ok)
+    clash (sym c.if-is_err.ensures.negation ∙ ok)
 
 pub returns : goal.returns
 returns g c = record { count = refl; is = rows_after g (goal.at.returns g c).After-insert }

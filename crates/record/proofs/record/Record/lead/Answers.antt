@@ -14,11 +14,11 @@ unreachable-requires g c =
     let M = g.F.Field.model in
     let r = c.args.self.now in
     let a = c.loop-row.row-index in
-    let sl = c.as-slice-row-items.result.now in
+    let sl = c.as_slice-row-items.result.now in
     let x = get_or sl a no_record_row in
-    let here = facts_of M r sl c.as-slice-row-items.ensures.value c.requires.sound a c.loop-row-test.true in
+    let here = facts_of M r sl c.as_slice-row-items.ensures.value c.requires.sound a c.loop-row-test.true in
     let alone : Alone r.count (pivoted x).weights (pivoted x).pivot =
-    (λ z. let one : ◌≡◌ {A = ℕ} 1 0 = sym (subst (λ (p : Pivoted). p.weights p.pivot ≡ 1) here.is (r.own_pivot a here.below)) ∙ z in omega arith, c.in-default.ensures) in
+    (λ z. let one : ◌≡◌ {A = ℕ} 1 0 = sym (subst (λ (p : Pivoted). p.weights p.pivot ≡ 1) here.is (r.own_pivot a here.below)) ∙ z in omega arith, c.in_default.ensures) in
     r.none_alone a here.below (subst (λ (p : Pivoted). Alone r.count p.weights p.pivot) (sym here.is) alone)
 
 pub returns-then-row-member : goal.returns-then-row-member
@@ -26,9 +26,9 @@ returns-then-row-member g c =
     let M = g.F.Field.model in
     let r = c.args.self.now in
     let a = c.loop-row.row-index in
-    let sl = c.as-slice-row-items.result.now in
+    let sl = c.as_slice-row-items.result.now in
     let x = get_or sl a no_record_row in
-    let here = facts_of M r sl c.as-slice-row-items.ensures.value c.requires.sound a c.loop-row-test.true in
+    let here = facts_of M r sl c.as_slice-row-items.ensures.value c.requires.sound a c.loop-row-test.true in
     let is = here.is in
     let member : x.pivot.0 ≡ c.args.member.0 = c.if-row-member.true in
     let other = c.in-Some.ensures in
@@ -47,12 +47,12 @@ pub loop-row-preserved : goal.loop-row-preserved
 loop-row-preserved g c =
     let r = c.args.self.now in
     let a = c.loop-row.row-index in
-    let here = facts_of g.F.Field.model r c.as-slice-row-items.result.now c.as-slice-row-items.ensures.value c.requires.sound a c.loop-row-test.true in
+    let here = facts_of g.F.Field.model r c.as_slice-row-items.result.now c.as_slice-row-items.ensures.value c.requires.sound a c.loop-row-test.true in
     below_more (λ b. (at (rec_of r) b).pivot ≢ c.args.member.0) a c.loop-row.invariant (λ z. c.if-row-member.false (ap (λ p. p.pivot) (sym here.is) ∙ z))
 
 pub returns : goal.returns
 returns g c =
     let r = c.args.self.now in
-    let all : length (rec_of r) ≤ c.loop-row.row-index = simp length-map (omega (arith, c.as-slice-row-items.ensures.len)) in
+    let all : length (rec_of r) ≤ c.loop-row.row-index = simp length-map (omega (arith, c.as_slice-row-items.ensures.len)) in
     let free : Free (rec_of r) c.args.member.0 = λ a h. c.loop-row.invariant a (omega arith) in
     record { leads = from_free free; below = c.requires.member; free = free; factor = c.requires.element }

@@ -13,18 +13,18 @@ use Rattle.record.proofs.record.Record.leftover.Goals as goal
 pub clear-requires : goal.clear-requires
 clear-requires g c =
     let r = c.args.self.now in
-    let here = facts_of g.F.Field.model r c.as-slice-rows.result.now c.as-slice-rows.ensures.value c.requires.sound c.loop-by.by_index c.loop-by-test.true in
-    record { few = r.members.1; pivot = here.pivot; coded = c.loop-by.invariant.1; by-coded = here.coded }
+    let here = facts_of g.F.Field.model r c.as_slice-rows.result.now c.as_slice-rows.ensures.value c.requires.sound c.loop-by.by-index c.loop-by-test.true in
+    record { few = r.members.1; pivot = here.pivot; coded = c.loop-by.invariant.1; by_coded = here.coded }
 
 pub loop-by-preserved : goal.loop-by-preserved
 loop-by-preserved g c =
     let M = g.F.Field.model in
     let r = c.args.self.now in
-    let a = c.loop-by.by_index in
-    let sl = c.as-slice-rows.result.now in
+    let a = c.loop-by.by-index in
+    let sl = c.as_slice-rows.result.now in
     let x = get_or sl a no_record_row in
     let start = figured_row c.of-left.result in
-    let here = facts_of M r sl c.as-slice-rows.ensures.value c.requires.sound a c.loop-by-test.true in
+    let here = facts_of M r sl c.as_slice-rows.ensures.value c.requires.sound a c.loop-by-test.true in
     let step : leftover M (take (a + 1) (rec_of r)) start ≡ cleared M (pivoted x) (leftover M (take a (rec_of r)) start) =
     ap (λ k. leftover M (take k (rec_of r)) start) (add-one a)
     ∙ leftover-next M (rec_of r) a here.below start
@@ -39,7 +39,7 @@ returns g c =
     let M = g.F.Field.model in
     let r = c.args.self.now in
     let start = figured_row c.of-left.result in
-    let whole = take_all c.loop-by.by_index (rec_of r) (simp length-map (omega (arith, c.as-slice-rows.ensures.len))) in
+    let whole = take_all c.loop-by.by-index (rec_of r) (simp length-map (omega (arith, c.as_slice-rows.ensures.len))) in
     record {
       is = same_trans
           (subst (λ (l : List Pivoted). SameRow r.count (figured_row c.loop-by.left) (leftover M l start)) whole c.loop-by.invariant.0)

@@ -12,24 +12,24 @@ use Rattle.record.proofs.record.Record.lowest_alone.Goals as goal
 pub clear-requires : goal.clear-requires
 clear-requires g c =
     let r = c.args.self.now in
-    let here = facts_of g.F.Field.model r c.as-slice-row-items.result.now c.as-slice-row-items.ensures.value c.requires.sound c.loop-row.row-index c.loop-row-test.true in
-    record { few = r.members.1; pivot = c.requires.pivot; coded = here.coded; by-coded = c.requires.coded }
+    let here = facts_of g.F.Field.model r c.as_slice-row-items.result.now c.as_slice-row-items.ensures.value c.requires.sound c.loop-row.row-index c.loop-row-test.true in
+    record { few = r.members.1; pivot = c.requires.pivot; coded = here.coded; by_coded = c.requires.coded }
 
-pub returns-in-default : goal.returns-in-default
-returns-in-default g c =
+pub returns-in_default : goal.returns-in_default
+returns-in_default g c =
     let M = g.F.Field.model in
     let L = g.met.F.Field.laws in
     let r = c.args.self.now in
     let a = c.loop-row.row-index in
     let e = pivoted c.args.fresh.now in
     let R = reduced_of M r c.requires.sound in
-    let x = get_or c.as-slice-row-items.result.now a no_record_row in
-    let here = facts_of M r c.as-slice-row-items.result.now c.as-slice-row-items.ensures.value c.requires.sound a c.loop-row-test.true in
+    let x = get_or c.as_slice-row-items.result.now a no_record_row in
+    let here = facts_of M r c.as_slice-row-items.result.now c.as_slice-row-items.ensures.value c.requires.sound a c.loop-row-test.true in
     let found =
-    alone-found M L r.count (rec_of r) R r.none_alone e c.requires.pivot c.requires.coded c.requires.own_val c.requires.others
-    (figured_row c.clear.new.self) a (pivoted x) here.below here.is c.clear.ensures.is c.in-default.ensures in
+    alone-found M L r.count (rec_of r) R r.none_alone e c.requires.pivot c.requires.coded c.requires.own c.requires.others
+    (figured_row c.clear.new.self) a (pivoted x) here.below here.is c.clear.ensures.is c.in_default.ensures in
     subst (λ (y : Pivoted). Lowest (AloneWith M r.count (rec_of r) e) y.pivot) here.is
-    (row_is_lowest M L r.count (rec_of r) R r.none_alone e c.requires.pivot c.requires.coded c.requires.own_val c.requires.others a here.below found c.loop-row.invariant)
+    (row_is_lowest M L r.count (rec_of r) R r.none_alone e c.requires.pivot c.requires.coded c.requires.own c.requires.others a here.below found c.loop-row.invariant)
 
 pub loop-row-preserved : goal.loop-row-preserved
 loop-row-preserved g c =
@@ -39,21 +39,21 @@ loop-row-preserved g c =
     let a = c.loop-row.row-index in
     let e = pivoted c.args.fresh.now in
     let R = reduced_of M r c.requires.sound in
-    let x = get_or c.as-slice-row-items.result.now a no_record_row in
-    let here = facts_of M r c.as-slice-row-items.result.now c.as-slice-row-items.ensures.value c.requires.sound a c.loop-row-test.true in
+    let x = get_or c.as_slice-row-items.result.now a no_record_row in
+    let here = facts_of M r c.as_slice-row-items.result.now c.as_slice-row-items.ensures.value c.requires.sound a c.loop-row-test.true in
     let other = c.in-Some.ensures in
     below_more _ _ c.loop-row.invariant
-    (alone_missed M L r.count (rec_of r) R r.none_alone e c.requires.pivot c.requires.coded c.requires.own_val c.requires.others
+    (alone_missed M L r.count (rec_of r) R r.none_alone e c.requires.pivot c.requires.coded c.requires.own c.requires.others
     (figured_row c.clear.new.self) a c.in-Some.field-0.0 (pivoted x) here.is c.clear.ensures.is other.0 other.1 other.2)
 
-pub returns-in-Some-lowest-other : goal.returns-in-Some-lowest-other
-returns-in-Some-lowest-other g c =
+pub returns-in-Some-lowest_other : goal.returns-in-Some-lowest_other
+returns-in-Some-lowest_other g c =
     let M = g.F.Field.model in
     let r = c.args.self.now in
     let e = pivoted c.args.fresh.now in
-    let other = c.in-Some-lowest-other.ensures in
-    let all : length (rec_of r) ≤ c.loop-row.row-index = simp length-map (omega (arith, c.as-slice-row-items.ensures.len)) in
-    none_is M g.met.F.Field.laws r.count (rec_of r) (reduced_of M r c.requires.sound) r.none_alone e c.requires.pivot c.requires.coded c.requires.own_val c.requires.others
+    let other = c.in-Some-lowest_other.ensures in
+    let all : length (rec_of r) ≤ c.loop-row.row-index = simp length-map (omega (arith, c.as_slice-row-items.ensures.len)) in
+    none_is M g.met.F.Field.laws r.count (rec_of r) (reduced_of M r c.requires.sound) r.none_alone e c.requires.pivot c.requires.coded c.requires.own c.requires.others
     (λ b h. c.loop-row.invariant b (omega arith)) (not_alone _ e.weights _ _ other.0 other.1 other.2)
 
 pub returns-in-None : goal.returns-in-None
@@ -61,6 +61,6 @@ returns-in-None g c =
     let M = g.F.Field.model in
     let r = c.args.self.now in
     let e = pivoted c.args.fresh.now in
-    let all : length (rec_of r) ≤ c.loop-row.row-index = simp length-map (omega (arith, c.as-slice-row-items.ensures.len)) in
-    fresh_is_lowest M g.met.F.Field.laws r.count (rec_of r) (reduced_of M r c.requires.sound) r.none_alone e c.requires.pivot c.requires.coded c.requires.own_val c.requires.others
-    (λ b h. c.loop-row.invariant b (omega arith)) (λ z. let one : ◌≡◌ {A = ℕ} 1 0 = sym c.requires.own_val ∙ z in omega arith, c.in-None.ensures)
+    let all : length (rec_of r) ≤ c.loop-row.row-index = simp length-map (omega (arith, c.as_slice-row-items.ensures.len)) in
+    fresh_is_lowest M g.met.F.Field.laws r.count (rec_of r) (reduced_of M r c.requires.sound) r.none_alone e c.requires.pivot c.requires.coded c.requires.own c.requires.others
+    (λ b h. c.loop-row.invariant b (omega arith)) (λ z. let one : ◌≡◌ {A = ℕ} 1 0 = sym c.requires.own ∙ z in omega arith, c.in-None.ensures)

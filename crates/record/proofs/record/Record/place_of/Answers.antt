@@ -11,10 +11,10 @@ pub returns-then-row-pivot : goal.returns-then-row-pivot
 returns-then-row-pivot g c =
     let r = c.args.self.now in
     let k = c.loop-a.a in
-    let sl = c.as-slice-row-items.result.now in
+    let sl = c.as_slice-row-items.result.now in
     let here : (at (rec_of r) k).pivot ≡ (get_or sl k no_record_row).pivot.0 =
-    ap (λ l. (at (all_pivoted l) k).pivot) (sym c.as-slice-row-items.ensures.value) ∙ ap (λ p. p.pivot) (at_row sl k) in
-    let size : length (rec_of r) ≡ length sl = length-map _ _ ∙ ap length (sym c.as-slice-row-items.ensures.value) in
+    ap (λ l. (at (all_pivoted l) k).pivot) (sym c.as_slice-row-items.ensures.value) ∙ ap (λ p. p.pivot) (at_row sl k) in
+    let size : length (rec_of r) ≡ length sl = length-map _ _ ∙ ap length (sym c.as_slice-row-items.ensures.value) in
     record {
       within = omega (arith, c.loop-a-test.true);
       below = c.loop-a.invariant;
@@ -29,17 +29,17 @@ pub loop-a-preserved : goal.loop-a-preserved
 loop-a-preserved g c =
     let r = c.args.self.now in
     let k = c.loop-a.a in
-    let sl = c.as-slice-row-items.result.now in
+    let sl = c.as_slice-row-items.result.now in
     let here : (at (rec_of r) k).pivot ≡ (get_or sl k no_record_row).pivot.0 =
-    ap (λ l. (at (all_pivoted l) k).pivot) (sym c.as-slice-row-items.ensures.value) ∙ ap (λ p. p.pivot) (at_row sl k) in
+    ap (λ l. (at (all_pivoted l) k).pivot) (sym c.as_slice-row-items.ensures.value) ∙ ap (λ p. p.pivot) (at_row sl k) in
     below_more (λ b. (at (rec_of r) b).pivot < c.args.pivot.0) k c.loop-a.invariant (omega (arith, c.if-row-pivot.false))
 
 pub returns : goal.returns
 returns g c =
     let r = c.args.self.now in
     let size : length (rec_of r) ≡ length (vec_items r.rows) = length-map _ _ in
-    let same : length c.as-slice-row-items.result.now ≡ length (vec_items r.rows) = ap length c.as-slice-row-items.ensures.value in
-    let len = c.as-slice-row-items.ensures.len in
+    let same : length c.as_slice-row-items.result.now ≡ length (vec_items r.rows) = ap length c.as_slice-row-items.ensures.value in
+    let len = c.as_slice-row-items.ensures.len in
     record {
       within = omega (arith, c.len.ensures);
       below = λ a h. c.loop-a.invariant a (omega (arith, c.len.ensures, c.loop-a-test.false));

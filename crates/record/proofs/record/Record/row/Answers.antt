@@ -11,18 +11,18 @@ pub returns-in-Some : goal.returns-in-Some
 returns-in-Some g c =
     let r = c.args.self.now in
     let k = c.args.k.0 in
-    let items = c.as-slice.result.now in
+    let items = c.as_slice.result.now in
     let found = c.in-Some.ensures.lookup in
-    let size : length (rec_of r) ≡ length items = rows-length (vec_items r.rows) ∙ ap length (sym c.as-slice.ensures.value) in
+    let size : length (rec_of r) ≡ length items = rows-length (vec_items r.rows) ∙ ap length (sym c.as_slice.ensures.value) in
     let inside : k < length items = omega (arith, tests, found.0) in
     let x = c.in-Some.row.now in
     let is : at (rec_of r) k ≡ pivoted x =
-    ap (λ l. at (all_pivoted l) k) (sym c.as-slice.ensures.value) ∙ at_row items k ∙ ap pivoted (sym (get_or_read items k x inside found.1 no_record_row)) in
+    ap (λ l. at (all_pivoted l) k) (sym c.as_slice.ensures.value) ∙ at_row items k ∙ ap pivoted (sym (get_or_read items k x inside found.1 no_record_row)) in
     (omega arith, is)
 
 pub returns-in-None : goal.returns-in-None
 returns-in-None g c =
     let r = c.args.self.now in
-    let items = c.as-slice.result.now in
-    let size : length (rec_of r) ≡ length items = rows-length (vec_items r.rows) ∙ ap length (sym c.as-slice.ensures.value) in
+    let items = c.as_slice.result.now in
+    let size : length (rec_of r) ≡ length items = rows-length (vec_items r.rows) ∙ ap length (sym c.as_slice.ensures.value) in
     omega (arith, tests, c.in-None.ensures.lookup.0)

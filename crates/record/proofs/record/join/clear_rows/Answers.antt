@@ -23,7 +23,7 @@ clear-requires g c =
       few = c.requires.few;
       pivot = c.requires.pivot;
       coded = subst (λ (p : Pivoted). CodedRow M c.args.n (figured p)) is (c.requires.coded a (omega (arith, c.len-a-end.ensures)));
-      by-coded = c.requires.by-coded;
+      by_coded = c.requires.by_coded;
     }
 
 pub loop-a-preserved : goal.loop-a-preserved

@@ -12,7 +12,7 @@ returns-then-factor-eq0 g c =
     let by = c.args.by.now in
     let none = c.if-factor-eq0.true in
     let own = c.requires.coded in
-    let other = c.requires.by-coded in
+    let other = c.requires.by_coded in
     let factor = own.0 by.pivot.0 c.requires.pivot in
     record {
       is = record {

@@ -10,6 +10,6 @@ returns g c =
     let M = g.F.Field.model in
     let bs = c.args.self.now.bytes.now in
     record {
-      is = c.bounded-count.ensures ∙ ap bounded (c.from.ensures ∙ c.count-byte.ensures) ∙ sym (listed-length M (count_of bs) (file_value M bs));
+      is = c.bounded_count.ensures ∙ ap bounded (c.from.ensures ∙ c.count_byte.ensures) ∙ sym (listed-length M (count_of bs) (file_value M bs));
       lawful = listed-table M (count_of bs) (file_value M bs) g.met.F.Field.laws;
     }
