@@ -19,7 +19,7 @@ loop-weight-preserved g c =
       | then-weight-ne0 v ↦
           let more = length-named M w m (stands w m v.if-weight-ne0.true) in
           let is = v.total-is in
-          let wide = v.element-width-total.ensures in
+          let wide = v.element_width-total.ensures in
           let few = narrow M _ wide in
           (omega arith, omega arith)
       | else-weight-ne0 v ↦

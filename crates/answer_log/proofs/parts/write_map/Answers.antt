@@ -15,7 +15,7 @@ loop-k-preserved c =
     let k = c.loop-k.k in
     let o = c.args.out.now in
     let map = map_bytes (weights_of ws) n in
-    let inside : k < map_length_lem n = omega (arith, c.map-length-k-end.ensures) in
+    let inside : k < map_length_lem n = omega (arith, c.map_length-k-end.ensures) in
     let long : k < length map = omega (arith, map-bytes-length (weights_of ws) n) in
     let room : k < length o = omega (arith, c.requires.room) in
     ap₂ (λ xs b. set xs k b) c.loop-k.invariant (c.map_byte.ensures ∙ sym (map-bytes-at (weights_of ws) n k inside))
@@ -25,6 +25,6 @@ pub returns : goal.returns
 returns c =
     let ws = c.args.weights.now in
     let n = length ws in
-    let all : c.loop-k.k ≡ map_length_lem n = omega (arith, c.map-length-k-end.ensures) in
+    let all : c.loop-k.k ≡ map_length_lem n = omega (arith, c.map_length-k-end.ensures) in
     c.loop-k.invariant
     ∙ ap₂ (λ xs k. xs ++ drop k c.args.out.now) (take_all c.loop-k.k (map_bytes (weights_of ws) n) (omega (arith, map-bytes-length (weights_of ws) n))) all

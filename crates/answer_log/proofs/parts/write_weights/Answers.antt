@@ -9,7 +9,7 @@ use Rattle.answer_log.proofs.Weights.{stands, clear, weights_none, weights-named
 use Rattle.buffer.specs.Buffers.{Front}
 use Rattle.buffer.proofs.Fronts.{part_length, front_more}
 use Rattle.answer_log.proofs.parts.write_weights.Goals as goal
-use Rattle.answer_log.proofs.parts.write_weights.Goals.{then-weight-ne0+in-Some, then-weight-ne0+in-default, else-weight-ne0}
+use Rattle.answer_log.proofs.parts.write_weights.Goals.{then-weight-ne0+in-Some, then-weight-ne0+in_default, else-weight-ne0}
 
 pub loop-weight-init : goal.loop-weight-init
 loop-weight-init g c =
@@ -26,14 +26,14 @@ room_below M w n m room h all =
     let same = ap (λ i. length (weight_bytes M w i)) rest in
     omega arith
 
-pub slice-bounds-encode-count : goal.slice-bounds-encode-count
-slice-bounds-encode-count g c =
+pub slice_bounds-encode-count : goal.slice_bounds-encode-count
+slice_bounds-encode-count g c =
     let ws = c.args.weights.now in
     let below = room_below g.F.Field.model (weights_of ws) (length ws) c.loop-weight.weight-index (length c.args.out.now) (omega arith) c.requires.room in
     omega (arith, c.loop-weight.invariant.0)
 
-pub slice-bounds-encode-start : goal.slice-bounds-encode-start
-slice-bounds-encode-start g c =
+pub slice_bounds-encode-start : goal.slice_bounds-encode-start
+slice_bounds-encode-start g c =
     let ws = c.args.weights.now in
     let below = room_below g.F.Field.model (weights_of ws) (length ws) c.loop-weight.weight-index (length c.args.out.now) (omega arith) c.requires.room in
     let h : c.loop-weight.at ≤ length c.loop-weight.out = omega (arith, c.loop-weight.invariant.0) in
@@ -64,12 +64,12 @@ loop-weight-preserved g c =
                 ∙ (front_more o c.loop-weight.out done at (front within) (written M (w m)) v.encode.new.out (width M) wrote.3 (written-length M (w m)) (omega (arith, inv.0))).buffer
                 ∙ ap₂ (λ xs k. xs ++ drop k o) (sym (weights-named M w m bit)) (sym far),
           )
-      | then-weight-ne0+in-default v ↦
+      | then-weight-ne0+in_default v ↦
           let bit = stands w m v.if-weight-ne0.true in
           let long = length-named M w m bit in
           let within : at ≤ length o = omega (arith, inv.0) in
           let part = part_length o c.loop-weight.out done at (front within) in
-          absurd (v.in-default.ensures.1 (c.requires.elements m c.loop-weight-test.true) (omega (arith, inv.0)))
+          absurd (v.in_default.ensures.1 (c.requires.elements m c.loop-weight-test.true) (omega (arith, inv.0)))
       | else-weight-ne0 v ↦
           let same = weights_unnamed M w m (clear w m v.if-weight-ne0.false) in (
             v.at-is ∙ inv.0 ∙ sym (ap length same),

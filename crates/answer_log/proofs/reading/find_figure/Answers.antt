@@ -5,54 +5,54 @@ use Rattle.field.proofs.Widths.{narrow}
 use Rattle.member_map.proofs.Counts.{few_bytes}
 use Rattle.answer_log.proofs.Readers.{is_weighted, not_weighted, figure_stored, figure_unstored}
 use Rattle.answer_log.proofs.reading.find_figure.Goals as goal
-use Rattle.answer_log.proofs.reading.find_figure.Goals.{then-mark-of-eq1, else-mark-of-eq1}
+use Rattle.answer_log.proofs.reading.find_figure.Goals.{then-mark_of-eq1, else-mark_of-eq1}
 
-pub overflow-mul-place : goal.overflow-mul-place
-overflow-mul-place g c =
-    omega (arith, few_bytes _ _ _ _ (narrow g.F.Field.model _ c.element-width.ensures) c.in-Ok.ensures.1)
+pub overflow_mul-place : goal.overflow_mul-place
+overflow_mul-place g c =
+    omega (arith, few_bytes _ _ _ _ (narrow g.F.Field.model _ c.element_width.ensures) c.in-Ok.ensures.1)
 
-pub overflow-add-place-then-mark-of-eq1 : goal.overflow-add-place-then-mark-of-eq1
-overflow-add-place-then-mark-of-eq1 g c =
-    omega (arith, c.map-length-place.ensures, few_bytes _ _ _ _ (narrow g.F.Field.model _ c.element-width.ensures) c.in-Ok.ensures.1)
+pub overflow_add-place-then-mark_of-eq1 : goal.overflow_add-place-then-mark_of-eq1
+overflow_add-place-then-mark_of-eq1 g c =
+    omega (arith, c.map_length-place.ensures, few_bytes _ _ _ _ (narrow g.F.Field.model _ c.element_width.ensures) c.in-Ok.ensures.1)
 
-pub overflow-add-place-2 : goal.overflow-add-place-2
-overflow-add-place-2 g c =
+pub overflow_add-place-2 : goal.overflow_add-place-2
+overflow_add-place-2 g c =
     let M = g.F.Field.model in
-    let few : c.if-mark-of-eq1.place ≤ 1 + c.map-length-place.result + 2 * c.args.n =
-    elim c.if-mark-of-eq1.branch [
-      | then-mark-of-eq1 v ↦ omega (arith, v.place-is, few_bytes _ _ _ _ (narrow M _ v.element-width.ensures) c.in-Ok.ensures.1)
-      | else-mark-of-eq1 v ↦ omega (arith, v.place-is)
+    let few : c.if-mark_of-eq1.place ≤ 1 + c.map_length-place.result + 2 * c.args.n =
+    elim c.if-mark_of-eq1.branch [
+      | then-mark_of-eq1 v ↦ omega (arith, v.place-is, few_bytes _ _ _ _ (narrow M _ v.element_width.ensures) c.in-Ok.ensures.1)
+      | else-mark_of-eq1 v ↦ omega (arith, v.place-is)
     ]
-    in omega (arith, c.map-length-place.ensures, narrow M _ c.element-width-2.ensures)
+    in omega (arith, c.map_length-place.ensures, narrow M _ c.element_width-2.ensures)
 
 pub returns-then-rest-place : goal.returns-then-rest-place
 unfolding row_length_lem
 returns-then-rest-place g c =
     let M = g.F.Field.model in
     let bs = c.args.rest.now in
-    let place : c.if-mark-of-eq1.place ≡ figure_place M c.args.n bs =
-    elim c.if-mark-of-eq1.branch [
-      | then-mark-of-eq1 v ↦
+    let place : c.if-mark_of-eq1.place ≡ figure_place M c.args.n bs =
+    elim c.if-mark_of-eq1.branch [
+      | then-mark_of-eq1 v ↦
           v.place-is
-          ∙ figure_stored M c.args.n bs _ _ _ (is_weighted bs _ c.mark-of.ensures v.if-mark-of-eq1.true) c.map-length-place.ensures v.element-width.ensures c.in-Ok.ensures.1
-      | else-mark-of-eq1 v ↦
+          ∙ figure_stored M c.args.n bs _ _ _ (is_weighted bs _ c.mark_of.ensures v.if-mark_of-eq1.true) c.map_length-place.ensures v.element_width.ensures c.in-Ok.ensures.1
+      | else-mark_of-eq1 v ↦
           v.place-is
-          ∙ figure_unstored M c.args.n bs _ (not_weighted bs _ c.mark-of.ensures v.if-mark-of-eq1.false) c.map-length-place.ensures
+          ∙ figure_unstored M c.args.n bs _ (not_weighted bs _ c.mark_of.ensures v.if-mark_of-eq1.false) c.map_length-place.ensures
     ]
-    in rest_cut c.in-Ok.ensures.0 (omega (arith, c.element-width-2.ensures))
+    in rest_cut c.in-Ok.ensures.0 (omega (arith, c.element_width-2.ensures))
 
 pub returns : goal.returns
 unfolding row_length_lem
 returns g c =
     let M = g.F.Field.model in
     let bs = c.args.rest.now in
-    let place : c.if-mark-of-eq1.place ≡ figure_place M c.args.n bs =
-    elim c.if-mark-of-eq1.branch [
-      | then-mark-of-eq1 v ↦
+    let place : c.if-mark_of-eq1.place ≡ figure_place M c.args.n bs =
+    elim c.if-mark_of-eq1.branch [
+      | then-mark_of-eq1 v ↦
           v.place-is
-          ∙ figure_stored M c.args.n bs _ _ _ (is_weighted bs _ c.mark-of.ensures v.if-mark-of-eq1.true) c.map-length-place.ensures v.element-width.ensures c.in-Ok.ensures.1
-      | else-mark-of-eq1 v ↦
+          ∙ figure_stored M c.args.n bs _ _ _ (is_weighted bs _ c.mark_of.ensures v.if-mark_of-eq1.true) c.map_length-place.ensures v.element_width.ensures c.in-Ok.ensures.1
+      | else-mark_of-eq1 v ↦
           v.place-is
-          ∙ figure_unstored M c.args.n bs _ (not_weighted bs _ c.mark-of.ensures v.if-mark-of-eq1.false) c.map-length-place.ensures
+          ∙ figure_unstored M c.args.n bs _ (not_weighted bs _ c.mark_of.ensures v.if-mark_of-eq1.false) c.map_length-place.ensures
     ]
-    in (record { named = c.in-Ok.ensures.0; rest = omega (arith, c.element-width-2.ensures) }, place)
+    in (record { named = c.in-Ok.ensures.0; rest = omega (arith, c.element_width-2.ensures) }, place)

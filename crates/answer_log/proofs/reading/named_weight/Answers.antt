@@ -8,17 +8,17 @@ use Rattle.member_map.proofs.Counts.{few_bytes}
 use Rattle.answer_log.proofs.Readers.{count_is, is_weighted, not_weighted}
 use Rattle.answer_log.proofs.reading.named_weight.Goals as goal
 
-pub returns-then-mark-of-ne1 : goal.returns-then-mark-of-ne1
-returns-then-mark-of-ne1 g c =
+pub returns-then-mark_of-ne1 : goal.returns-then-mark_of-ne1
+returns-then-mark_of-ne1 g c =
     let bs = c.args.rest.now in
-    sym (unstored_weight g.F.Field.model c.args.n bs c.args.m c.requires.bit (not_weighted bs _ c.mark-of.ensures c.if-mark-of-ne1.true))
+    sym (unstored_weight g.F.Field.model c.args.n bs c.args.m c.requires.bit (not_weighted bs _ c.mark_of.ensures c.if-mark_of-ne1.true))
 
-pub overflow-mul-at : goal.overflow-mul-at
-overflow-mul-at g c = omega (arith, few_bytes _ _ _ _ (narrow g.F.Field.model _ c.element-width.ensures) c.named-count.ensures)
+pub overflow_mul-at : goal.overflow_mul-at
+overflow_mul-at g c = omega (arith, few_bytes _ _ _ _ (narrow g.F.Field.model _ c.element_width.ensures) c.named_count.ensures)
 
-pub overflow-add-at-2 : goal.overflow-add-at-2
-overflow-add-at-2 g c =
-    omega (arith, c.map_length.ensures, few_bytes _ _ _ _ (narrow g.F.Field.model _ c.element-width.ensures) c.named-count.ensures)
+pub overflow_add-at-2 : goal.overflow_add-at-2
+overflow_add-at-2 g c =
+    omega (arith, c.map_length.ensures, few_bytes _ _ _ _ (narrow g.F.Field.model _ c.element_width.ensures) c.named_count.ensures)
 
 pub returns : goal.returns
 returns g c =
@@ -26,7 +26,7 @@ returns g c =
     let bs = c.args.rest.now in
     let n = c.args.n in
     let m = c.args.m in
-    let place : 1 + c.map_length.result + c.element-width.result * c.named-count.result ≡ weight_place M n bs m =
-    ap₂ (λ x y. 1 + x + y) c.map_length.ensures (ap₂ (λ x y. x * y) c.element-width.ensures (count_is bs n m _ c.named-count.ensures)) in
+    let place : 1 + c.map_length.result + c.element_width.result * c.named_count.result ≡ weight_place M n bs m =
+    ap₂ (λ x y. 1 + x + y) c.map_length.ensures (ap₂ (λ x y. x * y) c.element_width.ensures (count_is bs n m _ c.named_count.ensures)) in
     c.decode.ensures ∙ ap (code_at M bs) place
-    ∙ sym (stored_weight M n bs m c.requires.bit (is_weighted bs _ c.mark-of.ensures c.if-mark-of-ne1.false))
+    ∙ sym (stored_weight M n bs m c.requires.bit (is_weighted bs _ c.mark_of.ensures c.if-mark_of-ne1.false))

@@ -10,13 +10,13 @@ returns-then-figure-size g c =
     let figure = c.decode-figure.ensures ∙ ap (code_at g.F.Field.model c.args.rest.now) c.in-Ok.ensures.1 in
     no_figure c.in-Ok-weigh.ensures.0 (omega (arith, c.size.ensures, figure))
 
-pub overflow-add-next : goal.overflow-add-next
+pub overflow_add-next : goal.overflow_add-next
 unfolding row_length_lem
-overflow-add-next g c =
+overflow_add-next g c =
     let M = g.F.Field.model in
     let bs = c.args.rest.now in
     let rest : figure_place M c.args.n bs + width M ≤ length bs = c.in-Ok.ensures.0.rest in
-    omega (arith, c.in-Ok.ensures.1, c.element-width.ensures)
+    omega (arith, c.in-Ok.ensures.1, c.element_width.ensures)
 
 pub returns : goal.returns
 unfolding row_figure row_length_lem
@@ -28,5 +28,5 @@ returns g c =
       weights = fine.1;
       none_past = fine.2;
       figure = figure;
-      whole = ap₂ (λ i j. i + j) c.in-Ok.ensures.1 c.element-width.ensures;
+      whole = ap₂ (λ i j. i + j) c.in-Ok.ensures.1 c.element_width.ensures;
     }

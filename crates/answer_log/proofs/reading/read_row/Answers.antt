@@ -16,8 +16,8 @@ returns-in-Err g c =
     let rest = rest_is M n row c.args.bytes.now c.args.at _ c.min.ensures in
     subst (λ (bs : List ℕ). EntryCheck M n row bs (Some c.in-Err.e)) rest c.in-Err.ensures
 
-pub overflow-add-entry : goal.overflow-add-entry
-overflow-add-entry g c =
+pub overflow_add-entry : goal.overflow_add-entry
+overflow_add-entry g c =
     let M = g.F.Field.model in
     let n = c.args.n in
     let row = c.args.row in
@@ -40,4 +40,4 @@ returns g c =
     let rest = rest_is M n row bytes at _ c.min.ensures in
     let reads : Reads M n row (drop at bytes) (weights_of entry.weights) entry.figure.0 entry.next =
     subst (λ (bs : List ℕ). Reads M n row bs (weights_of entry.weights) entry.figure.0 entry.next) rest c.in-Ok.ensures in
-    row_at M n row bytes at (weights_of entry.weights) entry.figure.0 entry.next (λ i. (c.type-inv.bytes i).fits) _ refl reads
+    row_at M n row bytes at (weights_of entry.weights) entry.figure.0 entry.next (λ i. (c.type_inv.bytes i).fits) _ refl reads

@@ -6,17 +6,17 @@ use Rattle.answer_log.specs.Rows.{plain}
 use Rattle.answer_log.specs.Entries.{weighted, row_weight, needless_weights}
 use Rattle.answer_log.proofs.Readers.{is_weighted, not_weighted, plain_read}
 use Rattle.answer_log.proofs.reading.weigh.Goals as goal
-use Rattle.answer_log.proofs.reading.weigh.Goals.{else-mark-of-eq1-via-then-mark-of-eq1+else-is-plain, else-mark-of-eq1-via-else-mark-of-eq1}
+use Rattle.answer_log.proofs.reading.weigh.Goals.{else-mark_of-eq1-via-then-mark_of-eq1+else-is_plain, else-mark_of-eq1-via-else-mark_of-eq1}
 
-pub returns-then-is-plain : goal.returns-then-is-plain
-returns-then-is-plain g c =
+pub returns-then-is_plain : goal.returns-then-is_plain
+returns-then-is_plain g c =
     let bs = c.args.rest.now in
     let n = c.args.n in
     let ws = c.in-Ok.weights in
     let fine = c.in-Ok.ensures in
-    needless_weights c.requires fine.1 (is_weighted bs _ c.mark-of.ensures c.if-mark-of-eq1.true)
+    needless_weights c.requires fine.1 (is_weighted bs _ c.mark_of.ensures c.if-mark_of-eq1.true)
     (sym (plain_read g.F.Field.model n bs (weights_of ws) (length ws) (omega (arith, c.requires.named.mapped.count, fine.0)) fine.2 fine.3)
-    ∙ sym c.is-plain.ensures ∙ c.if-is-plain.true)
+    ∙ sym c.is_plain.ensures ∙ c.if-is_plain.true)
 
 pub returns : goal.returns
 returns g c =
@@ -26,11 +26,11 @@ returns g c =
     let ws = c.in-Ok.weights in
     let fine = c.in-Ok.ensures in
     let needed : weighted bs ≡ true → plain (row_weight M n bs) n ≡ false = λ e.
-    elim c.else-mark-of-eq1.branch [
-      | else-mark-of-eq1-via-then-mark-of-eq1+else-is-plain v ↦
+    elim c.else-mark_of-eq1.branch [
+      | else-mark_of-eq1-via-then-mark_of-eq1+else-is_plain v ↦
           sym (plain_read M n bs (weights_of ws) (length ws) (omega (arith, c.requires.named.mapped.count, fine.0)) fine.2 fine.3)
-          ∙ sym v.is_plain.ensures ∙ v.if-is-plain.false
-      | else-mark-of-eq1-via-else-mark-of-eq1 v ↦
-          absurd (both_ways _ (not_weighted bs _ c.mark-of.ensures v.if-mark-of-eq1.false) e)
+          ∙ sym v.is_plain.ensures ∙ v.if-is_plain.false
+      | else-mark_of-eq1-via-else-mark_of-eq1 v ↦
+          absurd (both_ways _ (not_weighted bs _ c.mark_of.ensures v.if-mark_of-eq1.false) e)
     ]
     in (record { framed = c.requires; no_fault = fine.1; needed = needed }, fine.2, fine.3)

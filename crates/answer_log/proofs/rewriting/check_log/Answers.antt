@@ -8,11 +8,11 @@ use Rattle.answer_log.proofs.rewriting.check_log.Goals as goal
 pub returns-in-Err : goal.returns-in-Err
 returns-in-Err g c = bad_header c.in-Err.e c.in-Err.ensures
 
-pub returns-in-Err-read-row : goal.returns-in-Err-read-row
-returns-in-Err-read-row g c =
-    let e = c.in-Err-read-row.e in
-    rows (Some e) c.in-default.ensures
-    (c.loop-at.invariant.1 (Some e) (row-refused g.F.Field.model c.args.n c.loop-at.row c.args.bytes.now c.loop-at.at c.loop-at-test.true e c.in-Err-read-row.ensures))
+pub returns-in-Err-read_row : goal.returns-in-Err-read_row
+returns-in-Err-read_row g c =
+    let e = c.in-Err-read_row.e in
+    rows (Some e) c.in_default.ensures
+    (c.loop-at.invariant.1 (Some e) (row-refused g.F.Field.model c.args.n c.loop-at.row c.args.bytes.now c.loop-at.at c.loop-at-test.true e c.in-Err-read_row.ensures))
 
 pub loop-at-preserved : goal.loop-at-preserved
 loop-at-preserved g c =
@@ -27,5 +27,5 @@ loop-at-preserved g c =
 
 pub returns : goal.returns
 returns g c =
-    rows None c.in-default.ensures
+    rows None c.in_default.ensures
     (c.loop-at.invariant.1 None (rows_done g.F.Field.model c.args.n c.loop-at.row c.args.bytes.now c.loop-at.at c.loop-at-test.false))

@@ -8,26 +8,26 @@ pub returns-in-Err : goal.returns-in-Err
 returns-in-Err g c = (bad_log c.in-Err.e c.in-Err.ensures, refl)
 
 pub returns-then-out-bytes : goal.returns-then-out-bytes
-returns-then-out-bytes g c = (log_full c.in-default.ensures (omega arith), refl)
+returns-then-out-bytes g c = (log_full c.in_default.ensures (omega arith), refl)
 
-pub returns-in-Err-write-header : goal.returns-in-Err-write-header
-returns-in-Err-write-header g c =
+pub returns-in-Err-write_header : goal.returns-in-Err-write_header
+returns-in-Err-write_header g c =
     let M = g.F.Field.model in
-    let header = header_of M c.args.n c.args.bytes.now c.in-default.ensures in
+    let header = header_of M c.args.n c.args.bytes.now c.in_default.ensures in
     let long = header_long M c.args.n c.args.bytes.now header in
-    absurd (header_excluded M c.args.n c.args.bytes.now _ _ header (omega arith) c.in-Err-write-header.ensures.0)
+    absurd (header_excluded M c.args.n c.args.bytes.now _ _ header (omega arith) c.in-Err-write_header.ensures.0)
 
-pub rewrite-rows-requires : goal.rewrite-rows-requires
-rewrite-rows-requires g c =
+pub rewrite_rows-requires : goal.rewrite_rows-requires
+rewrite_rows-requires g c =
     let M = g.F.Field.model in
     let n = c.args.n in
     let bytes = c.args.bytes.now in
-    let header = header_of M n bytes c.in-default.ensures in
-    let put = c.in-default-write-header.ensures.1 in
+    let header = header_of M n bytes c.in_default.ensures in
+    let put = c.in_default-write_header.ensures.1 in
     record {
-      rows = rows_of M n bytes c.in-default.ensures;
-      header = header-front M n bytes header c.args.out.now c.write-header.new.out _ put c.if-out-bytes.false;
-      room = omega (arith, header-kept M n bytes header c.args.out.now c.write-header.new.out _ put c.if-out-bytes.false);
+      rows = rows_of M n bytes c.in_default.ensures;
+      header = header-front M n bytes header c.args.out.now c.write_header.new.out _ put c.if-out-bytes.false;
+      room = omega (arith, header-kept M n bytes header c.args.out.now c.write_header.new.out _ put c.if-out-bytes.false);
     }
 
 pub returns : goal.returns
@@ -35,8 +35,8 @@ returns g c =
     let M = g.F.Field.model in
     let n = c.args.n in
     let bytes = c.args.bytes.now in
-    let header = header_of M n bytes c.in-default.ensures in
-    let put = c.in-default-write-header.ensures.1 in (
-      accepted c.in-default.ensures c.if-out-bytes.false,
-      log_put M n bytes header c.args.out.now c.write-header.new.out _ put c.if-out-bytes.false c.rewrite-rows.new.out c.rewrite-rows.ensures,
+    let header = header_of M n bytes c.in_default.ensures in
+    let put = c.in_default-write_header.ensures.1 in (
+      accepted c.in_default.ensures c.if-out-bytes.false,
+      log_put M n bytes header c.args.out.now c.write_header.new.out _ put c.if-out-bytes.false c.rewrite_rows.new.out c.rewrite_rows.ensures,
     )

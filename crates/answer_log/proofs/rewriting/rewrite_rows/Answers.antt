@@ -14,20 +14,20 @@ returns-in-Err g c =
     absurd
     (excluded M c.args.n _ _ _ (row_fine M c.args.n c.loop-at.row bytes at c.loop-at-test.true c.loop-at.invariant.3) c.in-Err.ensures)
 
-pub slice-bounds-weights-end : goal.slice-bounds-weights-end
-slice-bounds-weights-end g c =
+pub slice_bounds-weights-end : goal.slice_bounds-weights-end
+slice_bounds-weights-end g c =
     let whole : length c.in-Ok.entry.weights ≡ 64 = search rules in
     omega (arith, row_count g.F.Field.model c.args.n _ _ c.in-Ok.ensures.reads.check)
 
-pub slice-bounds-put-row-end : goal.slice-bounds-put-row-end
-slice-bounds-put-row-end g c =
+pub slice_bounds-put_row-end : goal.slice_bounds-put_row-end
+slice_bounds-put_row-end g c =
     let ws = c.in-Ok.entry.weights in
     let whole : length ws ≡ 64 = search rules in
     let count = row_count g.F.Field.model c.args.n _ _ c.in-Ok.ensures.reads.check in
     sym (length-take-le c.args.n ws (omega arith))
 
-pub put-row-requires : goal.put-row-requires
-put-row-requires g c =
+pub put_row-requires : goal.put_row-requires
+put_row-requires g c =
     let M = g.F.Field.model in
     let L = g.met.F.Field.laws in
     let n = c.args.n in
@@ -39,7 +39,7 @@ put-row-requires g c =
     let row = c.in-Ok.ensures in
     let whole : length ws ≡ 64 = search rules in
     let long : n ≤ length ws = omega (arith, row_count M n _ _ row.reads.check) in
-    let fit : (i : ℕ) → get_or bytes i 0 < 256 = λ i. (c.type-inv.bytes i).fits in
+    let fit : (i : ℕ) → get_or bytes i 0 < 256 = λ i. (c.type_inv.bytes i).fits in
     let front = c.loop-at.invariant.2 in
     let size = cut_size M L n _ bytes fit at ws f next row long in
     record {
@@ -62,11 +62,11 @@ loop-at-preserved g c =
     let row = c.in-Ok.ensures in
     let whole : length ws ≡ 64 = search rules in
     let long : n ≤ length ws = omega (arith, row_count M n _ _ row.reads.check) in
-    let fit : (i : ℕ) → get_or bytes i 0 < 256 = λ i. (c.type-inv.bytes i).fits in
+    let fit : (i : ℕ) → get_or bytes i 0 < 256 = λ i. (c.type_inv.bytes i).fits in
     let front = c.loop-at.invariant.2 in (
       omega (arith, row.on, c.loop-at.invariant.0),
       row.within,
-      cut_put M L n _ bytes fit at ws f next row long c.args.out.now c.loop-at.out c.put-row.new.out front c.requires.room c.put-row.ensures,
+      cut_put M L n _ bytes fit at ws f next row long c.args.out.now c.loop-at.out c.put_row.new.out front c.requires.room c.put_row.ensures,
       rows_left M n c.loop-at.row bytes at (weights_of ws) f next c.loop-at-test.true row c.loop-at.invariant.3,
     )
 

@@ -17,8 +17,8 @@ bounds-out-0 g c =
     let h : 1 ≤ length o = omega arith in
     search rules
 
-pub slice-bounds-write-map-count : goal.slice-bounds-write-map-count
-slice-bounds-write-map-count g c =
+pub slice_bounds-write_map-count : goal.slice_bounds-write_map-count
+slice_bounds-write_map-count g c =
     let M = g.F.Field.model in
     let ws = c.args.weights.now in
     let n = length ws in
@@ -29,8 +29,8 @@ slice-bounds-write-map-count g c =
     let marked = put-mark M n w f o c.requires.room c.mark.result c.mark.ensures in
     omega (arith, same_length o _ _ 1 marked)
 
-pub slice-bounds-write-map-start : goal.slice-bounds-write-map-start
-slice-bounds-write-map-start g c =
+pub slice_bounds-write_map-start : goal.slice_bounds-write_map-start
+slice_bounds-write_map-start g c =
     let M = g.F.Field.model in
     let ws = c.args.weights.now in
     let n = length ws in
@@ -42,8 +42,8 @@ slice-bounds-write-map-start g c =
     let same = same_length o _ _ 1 marked in
     search rules
 
-pub write-map-requires : goal.write-map-requires
-write-map-requires g c =
+pub write_map-requires : goal.write_map-requires
+write_map-requires g c =
     let M = g.F.Field.model in
     let ws = c.args.weights.now in
     let n = length ws in
@@ -54,8 +54,8 @@ write-map-requires g c =
     let marked = put-mark M n w f o c.requires.room c.mark.result c.mark.ensures in
     record { few = c.requires.few; room = omega (arith, part_length o _ _ 1 marked) }
 
-pub slice-bounds-write-stored-count : goal.slice-bounds-write-stored-count
-slice-bounds-write-stored-count g c =
+pub slice_bounds-write_stored-count : goal.slice_bounds-write_stored-count
+slice_bounds-write_stored-count g c =
     let M = g.F.Field.model in
     let ws = c.args.weights.now in
     let n = length ws in
@@ -64,12 +64,12 @@ slice-bounds-write-stored-count g c =
     let o = c.args.out.now in
     let room = room_all M n w f o c.requires.room in
     let marked = put-mark M n w f o c.requires.room c.mark.result c.mark.ensures in
-    let a = c.map-length-at.result in
-    let mapped = put_map M n w f o c.requires.room _ c.write-map.new.out a marked c.map-length-at.ensures c.write-map.ensures in
-    omega (arith, same_length o _ _ (1 + a) mapped, c.map-length-at.ensures)
+    let a = c.map_length-at.result in
+    let mapped = put_map M n w f o c.requires.room _ c.write_map.new.out a marked c.map_length-at.ensures c.write_map.ensures in
+    omega (arith, same_length o _ _ (1 + a) mapped, c.map_length-at.ensures)
 
-pub slice-bounds-write-stored-start : goal.slice-bounds-write-stored-start
-slice-bounds-write-stored-start g c =
+pub slice_bounds-write_stored-start : goal.slice_bounds-write_stored-start
+slice_bounds-write_stored-start g c =
     let M = g.F.Field.model in
     let ws = c.args.weights.now in
     let n = length ws in
@@ -78,12 +78,12 @@ slice-bounds-write-stored-start g c =
     let o = c.args.out.now in
     let room = room_all M n w f o c.requires.room in
     let marked = put-mark M n w f o c.requires.room c.mark.result c.mark.ensures in
-    let a = c.map-length-at.result in
-    let mapped = put_map M n w f o c.requires.room _ c.write-map.new.out a marked c.map-length-at.ensures c.write-map.ensures in
-    omega (arith, same_length o _ _ (1 + a) mapped, c.map-length-at.ensures)
+    let a = c.map_length-at.result in
+    let mapped = put_map M n w f o c.requires.room _ c.write_map.new.out a marked c.map_length-at.ensures c.write_map.ensures in
+    omega (arith, same_length o _ _ (1 + a) mapped, c.map_length-at.ensures)
 
-pub write-stored-stored-requires : goal.write-stored-stored-requires
-write-stored-stored-requires g c =
+pub write_stored-stored-requires : goal.write_stored-stored-requires
+write_stored-stored-requires g c =
     let M = g.F.Field.model in
     let ws = c.args.weights.now in
     let n = length ws in
@@ -92,12 +92,12 @@ write-stored-stored-requires g c =
     let o = c.args.out.now in
     let room = room_all M n w f o c.requires.room in
     let marked = put-mark M n w f o c.requires.room c.mark.result c.mark.ensures in
-    let a = c.map-length-at.result in
-    let mapped = put_map M n w f o c.requires.room _ c.write-map.new.out a marked c.map-length-at.ensures c.write-map.ensures in
-    record { elements = c.requires.elements; room = omega (arith, part_length o _ _ (1 + a) mapped, c.map-length-at.ensures) }
+    let a = c.map_length-at.result in
+    let mapped = put_map M n w f o c.requires.room _ c.write_map.new.out a marked c.map_length-at.ensures c.write_map.ensures in
+    record { elements = c.requires.elements; room = omega (arith, part_length o _ _ (1 + a) mapped, c.map_length-at.ensures) }
 
-pub overflow-add-at-2 : goal.overflow-add-at-2
-overflow-add-at-2 g c =
+pub overflow_add-at-2 : goal.overflow_add-at-2
+overflow_add-at-2 g c =
     let M = g.F.Field.model in
     let ws = c.args.weights.now in
     let n = length ws in
@@ -105,26 +105,10 @@ overflow-add-at-2 g c =
     let f = c.args.figure.0 in
     let o = c.args.out.now in
     let room = room_all M n w f o c.requires.room in
-    omega (arith, c.map-length-at.ensures, c.write-stored-stored.ensures.length)
+    omega (arith, c.map_length-at.ensures, c.write_stored-stored.ensures.length)
 
-pub slice-bounds-encode-count : goal.slice-bounds-encode-count
-slice-bounds-encode-count g c =
-    let M = g.F.Field.model in
-    let ws = c.args.weights.now in
-    let n = length ws in
-    let w = weights_of ws in
-    let f = c.args.figure.0 in
-    let o = c.args.out.now in
-    let room = room_all M n w f o c.requires.room in
-    let marked = put-mark M n w f o c.requires.room c.mark.result c.mark.ensures in
-    let a = c.map-length-at.result in
-    let mapped = put_map M n w f o c.requires.room _ c.write-map.new.out a marked c.map-length-at.ensures c.write-map.ensures in
-    let s = c.write-stored-stored.result in
-    let stored = put_stored M n w f o c.requires.room _ c.write-stored-stored.new.out a s mapped c.map-length-at.ensures c.write-stored-stored.ensures.length c.write-stored-stored.ensures.buffer in
-    omega (arith, same_length o _ _ (1 + a + s) stored, c.map-length-at.ensures, c.write-stored-stored.ensures.length)
-
-pub slice-bounds-encode-start : goal.slice-bounds-encode-start
-slice-bounds-encode-start g c =
+pub slice_bounds-encode-count : goal.slice_bounds-encode-count
+slice_bounds-encode-count g c =
     let M = g.F.Field.model in
     let ws = c.args.weights.now in
     let n = length ws in
@@ -133,11 +117,27 @@ slice-bounds-encode-start g c =
     let o = c.args.out.now in
     let room = room_all M n w f o c.requires.room in
     let marked = put-mark M n w f o c.requires.room c.mark.result c.mark.ensures in
-    let a = c.map-length-at.result in
-    let mapped = put_map M n w f o c.requires.room _ c.write-map.new.out a marked c.map-length-at.ensures c.write-map.ensures in
-    let s = c.write-stored-stored.result in
-    let stored = put_stored M n w f o c.requires.room _ c.write-stored-stored.new.out a s mapped c.map-length-at.ensures c.write-stored-stored.ensures.length c.write-stored-stored.ensures.buffer in
-    omega (arith, same_length o _ _ (1 + a + s) stored, c.map-length-at.ensures, c.write-stored-stored.ensures.length)
+    let a = c.map_length-at.result in
+    let mapped = put_map M n w f o c.requires.room _ c.write_map.new.out a marked c.map_length-at.ensures c.write_map.ensures in
+    let s = c.write_stored-stored.result in
+    let stored = put_stored M n w f o c.requires.room _ c.write_stored-stored.new.out a s mapped c.map_length-at.ensures c.write_stored-stored.ensures.length c.write_stored-stored.ensures.buffer in
+    omega (arith, same_length o _ _ (1 + a + s) stored, c.map_length-at.ensures, c.write_stored-stored.ensures.length)
+
+pub slice_bounds-encode-start : goal.slice_bounds-encode-start
+slice_bounds-encode-start g c =
+    let M = g.F.Field.model in
+    let ws = c.args.weights.now in
+    let n = length ws in
+    let w = weights_of ws in
+    let f = c.args.figure.0 in
+    let o = c.args.out.now in
+    let room = room_all M n w f o c.requires.room in
+    let marked = put-mark M n w f o c.requires.room c.mark.result c.mark.ensures in
+    let a = c.map_length-at.result in
+    let mapped = put_map M n w f o c.requires.room _ c.write_map.new.out a marked c.map_length-at.ensures c.write_map.ensures in
+    let s = c.write_stored-stored.result in
+    let stored = put_stored M n w f o c.requires.room _ c.write_stored-stored.new.out a s mapped c.map_length-at.ensures c.write_stored-stored.ensures.length c.write_stored-stored.ensures.buffer in
+    omega (arith, same_length o _ _ (1 + a + s) stored, c.map_length-at.ensures, c.write_stored-stored.ensures.length)
 
 pub returns : goal.returns
 returns g c =
@@ -149,10 +149,10 @@ returns g c =
     let o = c.args.out.now in
     let room = room_all M n w f o c.requires.room in
     let marked = put-mark M n w f o c.requires.room c.mark.result c.mark.ensures in
-    let a = c.map-length-at.result in
-    let mapped = put_map M n w f o c.requires.room _ c.write-map.new.out a marked c.map-length-at.ensures c.write-map.ensures in
-    let s = c.write-stored-stored.result in
-    let stored = put_stored M n w f o c.requires.room _ c.write-stored-stored.new.out a s mapped c.map-length-at.ensures c.write-stored-stored.ensures.length c.write-stored-stored.ensures.buffer in
+    let a = c.map_length-at.result in
+    let mapped = put_map M n w f o c.requires.room _ c.write_map.new.out a marked c.map_length-at.ensures c.write_map.ensures in
+    let s = c.write_stored-stored.result in
+    let stored = put_stored M n w f o c.requires.room _ c.write_stored-stored.new.out a s mapped c.map_length-at.ensures c.write_stored-stored.ensures.length c.write_stored-stored.ensures.buffer in
     let part = part_length o _ _ (1 + a + s) stored in
     put-figure M n w f o c.requires.room _ c.encode.new.out (1 + a + s) stored
-    (encoded M f _ c.encode.new.out c.encode.result c.requires.figure (omega (arith, c.map-length-at.ensures, c.write-stored-stored.ensures.length)) c.encode.ensures)
+    (encoded M f _ c.encode.new.out c.encode.result c.requires.figure (omega (arith, c.map_length-at.ensures, c.write_stored-stored.ensures.length)) c.encode.ensures)

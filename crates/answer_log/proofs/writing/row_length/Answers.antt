@@ -8,4 +8,4 @@ pub returns : goal.returns
 returns g c f =
     let ws = c.args.weights.now in
     let all = row-size g.F.Field.model (length ws) (weights_of ws) f in
-    omega (arith, c.map_length.ensures, c.stored_length.ensures.is, c.element-width.ensures)
+    omega (arith, c.map_length.ensures, c.stored_length.ensures.is, c.element_width.ensures)

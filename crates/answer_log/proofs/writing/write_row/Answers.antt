@@ -12,24 +12,24 @@ pub returns-in-Err : goal.returns-in-Err
 returns-in-Err g c = (bad_row (omega arith, omega arith) c.in-Err.e c.in-Err.ensures, refl)
 
 pub returns-then-figure-size : goal.returns-then-figure-size
-returns-then-figure-size g c = (no_figure (omega arith, omega arith) c.in-default.ensures (omega (arith, c.size.ensures)), refl)
+returns-then-figure-size g c = (no_figure (omega arith, omega arith) c.in_default.ensures (omega (arith, c.size.ensures)), refl)
 
-pub row-length-length-requires : goal.row-length-length-requires
-row-length-length-requires g c = omega (arith, checked_length g.F.Field.model _ _ c.in-default.ensures)
+pub row_length-length-requires : goal.row_length-length-requires
+row_length-length-requires g c = omega (arith, checked_length g.F.Field.model _ _ c.in_default.ensures)
 
 pub returns-then-out-length : goal.returns-then-out-length
 returns-then-out-length g c =
-    let fine = c.in-default.ensures in
-    let size = c.row-length-length.ensures c.args.figure.0 ∙ ap length (checked_row g.F.Field.model _ _ fine c.args.figure.0) in
+    let fine = c.in_default.ensures in
+    let size = c.row_length-length.ensures c.args.figure.0 ∙ ap length (checked_row g.F.Field.model _ _ fine c.args.figure.0) in
     (log_full (omega arith, omega arith) fine (omega (arith, c.size.ensures)) (omega arith), refl)
 
-pub put-row-requires : goal.put-row-requires
-put-row-requires g c =
+pub put_row-requires : goal.put_row-requires
+put_row-requires g c =
     let M = g.F.Field.model in
     let ws = c.args.weights.now in
-    let fine = c.in-default.ensures in
+    let fine = c.in_default.ensures in
     let long = checked_length M c.args.n ws fine in
-    let size = c.row-length-length.ensures c.args.figure.0 in
+    let size = c.row_length-length.ensures c.args.figure.0 in
     record {
       few = omega arith;
       elements = λ m h. checked_codes M c.args.n ws fine m (omega arith);
@@ -42,10 +42,10 @@ returns g c =
     let M = g.F.Field.model in
     let ws = c.args.weights.now in
     let f = c.args.figure.0 in
-    let fine = c.in-default.ensures in
+    let fine = c.in_default.ensures in
     let count : Count c.args.n = (omega arith, omega arith) in
     let below : f < M.size = omega (arith, c.size.ensures) in
-    let size = c.row-length-length.ensures f in
-    let out = row_written M c.args.n ws count fine f below c.args.out.now c.put-row.new.out c.row-length-length.result size c.put-row.ensures in
+    let size = c.row_length-length.ensures f in
+    let out = row_written M c.args.n ws count fine f below c.args.out.now c.put_row.new.out c.row_length-length.result size c.put_row.ensures in
     let room = size ∙ ap length (checked_row M c.args.n ws fine f) in
     (accepted count fine below (omega arith), out.0, out.1)
