@@ -15,14 +15,14 @@ returns-in-Some c =
     let reply = reply_of_answer c.args.answer.now in
     let all = line-length c.args.line reply in
     let left = c.in-Some.ensures in
-    c.is-some.ensures
-    ∙ told c.room-after-text.result (length (reply_text reply)) c.in-Some.rest (length (answer_line c.args.line reply)) c.args.room
-    (omega (arith, c.digit-count.ensures.is)) c.room-after-text.ensures
+    c.is_some.ensures
+    ∙ told c.room_after_text.result (length (reply_text reply)) c.in-Some.rest (length (answer_line c.args.line reply)) c.args.room
+    (omega (arith, c.digit_count.ensures.is)) c.room_after_text.ensures
 
 pub returns-in-None : goal.returns-in-None
 returns-in-None c =
     let reply = reply_of_answer c.args.answer.now in
     let all = line-length c.args.line reply in
-    ⊎_elim (λ short. sym (lt-leb (length (answer_line c.args.line reply)) c.args.room (omega (arith, c.digit-count.ensures.is))))
+    ⊎_elim (λ short. sym (lt-leb (length (answer_line c.args.line reply)) c.args.room (omega (arith, c.digit_count.ensures.is))))
     (λ room. absurd (c.in-None.ensures room))
-    (cases_lt c.args.room (c.digit-count.result + 2))
+    (cases_lt c.args.room (c.digit_count.result + 2))

@@ -8,5 +8,5 @@ pub returns : goal.returns
 returns c =
     let text = reply_text (reply_of_answer c.args.answer.now) in
     let spaced = front_byte c.args.out.now 32 (omega (arith, c.requires)) in
-    let written = front-put _ _ (32 ∷ []) 1 spaced text c.put-text-at.new.out c.put-text-at.result c.put-text-at.ensures (omega (arith, c.requires)) in
-    front_all _ _ _ _ (front-set _ _ _ _ written 10 (omega (arith, c.requires, c.put-text-at.ensures.count))) _ refl
+    let written = front-put _ _ (32 ∷ []) 1 spaced text c.put_text-at.new.out c.put_text-at.result c.put_text-at.ensures (omega (arith, c.requires)) in
+    front_all _ _ _ _ (front-set _ _ _ _ written 10 (omega (arith, c.requires, c.put_text-at.ensures.count))) _ refl

@@ -14,7 +14,7 @@ returns-in-Figure c =
     let long = ap length text in
     let short = ap length none in
     let marked = front_byte c.args.out.now 61 (omega (arith, c.requires)) in
-    front_all _ _ _ _ (front-put _ _ (61 ∷ []) 1 marked (after_space v) c.put-spaced.new.out c.put-spaced.result c.put-spaced.ensures (omega (arith, c.requires))) _
+    front_all _ _ _ _ (front-put _ _ (61 ∷ []) 1 marked (after_space v) c.put_spaced.new.out c.put_spaced.result c.put_spaced.ensures (omega (arith, c.requires))) _
     (ap (λ us. 61 ∷ 32 ∷ us) (sym none) ∙ sym text)
 
 pub returns-in-Witness : goal.returns-in-Witness
@@ -23,5 +23,5 @@ returns-in-Witness c =
     let text : reply_text (reply_of_answer c.args.answer.now) ≡ 119 ∷ spaced w = ap (λ a. reply_text (reply_of_answer a)) c.in-Witness.is in
     let long = ap length text in
     let marked = front_byte c.args.out.now 119 (omega (arith, c.requires)) in
-    front_all _ _ _ _ (front-put _ _ (119 ∷ []) 1 marked (spaced w) c.put-elements.new.out c.put-elements.result c.put-elements.ensures (omega (arith, c.requires))) _
+    front_all _ _ _ _ (front-put _ _ (119 ∷ []) 1 marked (spaced w) c.put_elements.new.out c.put_elements.result c.put_elements.ensures (omega (arith, c.requires))) _
     (sym text)

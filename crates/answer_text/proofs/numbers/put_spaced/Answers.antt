@@ -9,4 +9,4 @@ returns c =
     let v = c.args.value in
     let o = c.args.out.now in
     let first = front_byte o 32 (omega arith) in
-    front_all o _ _ _ (front-put o _ (32 ∷ []) 1 first (decimal v) c.put-number.new.out c.put-number.result c.put-number.ensures (omega arith)) (after_space v) refl
+    front_all o _ _ _ (front-put o _ (32 ∷ []) 1 first (decimal v) c.put_number.new.out c.put_number.result c.put_number.ensures (omega arith)) (after_space v) refl

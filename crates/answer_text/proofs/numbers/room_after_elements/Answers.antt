@@ -12,12 +12,12 @@ returns-then-left-length c =
     let i = c.loop-element.element-index in
     let more = element_more_length es i c.loop-element-test.true in
     let below = elements-below es (i + 1) in
-    omega (arith, c.loop-element.invariant, c.spaced-length-length.ensures.is)
+    omega (arith, c.loop-element.invariant, c.spaced_length-length.ensures.is)
 
 pub loop-element-preserved : goal.loop-element-preserved
 loop-element-preserved c =
     let more = element_more_length c.args.elements.now c.loop-element.element-index c.loop-element-test.true in
-    omega (arith, c.loop-element.invariant, c.spaced-length-length.ensures.is)
+    omega (arith, c.loop-element.invariant, c.spaced_length-length.ensures.is)
 
 pub returns : goal.returns
 returns c =

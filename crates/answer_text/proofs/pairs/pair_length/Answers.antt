@@ -6,6 +6,6 @@ use Rattle.answer_text.proofs.pairs.pair_length.Goals as goal
 pub returns : goal.returns
 returns c =
     let two = two_length c.args.first c.args.second in
-    let first = c.spaced-length.ensures in
-    let second = c.spaced-length-2.ensures in
+    let first = c.spaced_length.ensures in
+    let second = c.spaced_length-2.ensures in
     record { is = omega arith; few = omega arith }

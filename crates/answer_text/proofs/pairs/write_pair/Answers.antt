@@ -5,17 +5,17 @@ use Rattle.buffer.proofs.Fronts.{front_of_put, front-set, front_all}
 use Rattle.answer_text.specs.AnswerLines.{spaced, newline}
 use Rattle.answer_text.proofs.pairs.write_pair.Goals as goal
 
-pub returns-then-out-pair-length : goal.returns-then-out-pair-length
-returns-then-out-pair-length c =
+pub returns-then-out-pair_length : goal.returns-then-out-pair_length
+returns-then-out-pair_length c =
     let all = length-append (spaced (c.args.first ∷ c.args.second ∷ [])) newline in
-    (omega (arith, c.pair-length.ensures.is), refl)
+    (omega (arith, c.pair_length.ensures.is), refl)
 
 pub returns : goal.returns
 returns c =
     let text = c.args.mark ∷ spaced (c.args.first ∷ c.args.second ∷ []) in
     let o = c.args.out.now in
     let all = length-append text newline in
-    let long : length text + 1 ≤ length o = omega (arith, c.pair-length.ensures.is) in
-    let put = c.put-pair-at.ensures in
+    let long : length text + 1 ≤ length o = omega (arith, c.pair_length.ensures.is) in
+    let put = c.put_pair-at.ensures in
     let front = front_of_put o _ text _ put (omega arith) in
     (omega arith, front_all _ _ _ _ (front-set _ _ _ _ front 10 (omega (arith, put.count))) _ refl)

@@ -11,7 +11,7 @@ use Rattle.log_record.proofs.joining.join_row.Goals.{After-admit}
 
 pub unreachable-requires : goal.unreachable-requires
 unreachable-requires g c =
-    never_refused _ g.F.Field.model _ _ c.judge.result c.judge.ensures c.requires.checked c.in-default.not-Ok
+    never_refused _ g.F.Field.model _ _ c.judge.result c.judge.ensures c.requires.checked c.in_default.not-Ok
 
 pub returns-in-Pinning : goal.returns-in-Pinning
 returns-in-Pinning g c =
@@ -52,17 +52,17 @@ returns-else-known-figure g c =
 judged-free : (g : _) (c : After-admit g) → Judged g.F.Field.model c.args.held.now.count (rec_of c.args.held.now) (weights_of c.args.weights.now) Free
 judged-free g c = subst (Judged g.F.Field.model _ _ _) c.in-Free.is c.in-Ok.ensures.1
 
-pub unreachable-requires-then-is-err : goal.unreachable-requires-then-is-err
-unreachable-requires-then-is-err g c =
-    let here = (goal.at.unreachable-requires-then-is-err g c).After-admit in
+pub unreachable-requires-then-is_err : goal.unreachable-requires-then-is_err
+unreachable-requires-then-is_err g c =
+    let here = (goal.at.unreachable-requires-then-is_err g c).After-admit in
     clash
-    (sym c.if-is-err.ensures.negation
+    (sym c.if-is_err.ensures.negation
     ∙ (admitted g.F.Field.model _ _ _ _ _ _ c.requires.checked c.requires.figure (judged-free g here) c.admit.ensures.admitted).0)
 
-pub returns-else-is-err : goal.returns-else-is-err
-returns-else-is-err g c =
+pub returns-else-is_err : goal.returns-else-is_err
+returns-else-is_err g c =
     let M = g.F.Field.model in
-    let here = (goal.at.returns-else-is-err g c).After-admit in
+    let here = (goal.at.returns-else-is_err g c).After-admit in
     let (_, fits, adds) = admitted M _ _ _ _ _ _ c.requires.checked c.requires.figure (judged-free g here) c.admit.ensures.admitted in
     record {
       sound = c.admit.ensures.sound;

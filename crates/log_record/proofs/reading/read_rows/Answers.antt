@@ -23,15 +23,15 @@ loop-at-init g c =
       ([], subst (Recorded M n []) (sym c.requires.empty) (nothing_yet M g.met.F.Field.laws n), λ r given all. all),
     )
 
-pub returns-in-err-entry : goal.returns-in-err-entry
-returns-in-err-entry g c =
+pub returns-in_err-entry : goal.returns-in_err-entry
+returns-in_err-entry g c =
     let M = g.F.Field.model in
     let n = c.count-n.result in
     let inv = c.loop-at.invariant in
-    let e = c.in-err-entry.field-0.0 in
+    let e = c.in_err-entry.field-0.0 in
     let bytes = c.args.log.now in
-    let all = inv.3.2 (Some e) [] (row-refused M n c.loop-at.row inv.3.0 bytes c.loop-at.at c.loop-at-test.true e c.in-err-entry.ensures) in
-    let p = err_from_is_err_and c.from-residual.result c.from-residual.ensures.1 in
+    let all = inv.3.2 (Some e) [] (row-refused M n c.loop-at.row inv.3.0 bytes c.loop-at.at c.loop-at-test.true e c.in_err-entry.ensures) in
+    let p = err_from_is_err_and c.from_residual.result c.from_residual.ensures.1 in
     rw (p.1, p.2)
     (record {
       sound = inv.0;
@@ -39,46 +39,46 @@ returns-in-err-entry g c =
       joins = subst (λ (m : ℕ). RowsJoin M m 0 [] (drop 2 bytes) (Some e) []) c.count-n.ensures all;
     })
 
-pub join-row-requires : goal.join-row-requires
-join-row-requires g c =
+pub join_row-requires : goal.join_row-requires
+join_row-requires g c =
     let M = g.F.Field.model in
     let n = c.count-n.result in
     let inv = c.loop-at.invariant in
     let bytes = c.args.log.now in
-    let ws = c.in-ok-entry.entry.weights in
-    let row = c.in-ok-entry.ensures in
+    let ws = c.in_ok-entry.entry.weights in
+    let row = c.in_ok-entry.ensures in
     let whole : length ws ≡ 64 = search rules in
     let long : n ≤ length ws = omega (arith, row_count M n _ _ row.reads.check) in
-    let fit : (i : ℕ) → get_or bytes i 0 < 256 = λ i. (c.type-inv.log i).fits in
-    let (checked, figure) = cut_checked M g.met.F.Field.laws n _ bytes fit c.loop-at.at ws c.in-ok-entry.entry.figure.0 c.in-ok-entry.entry.next row long in
+    let fit : (i : ℕ) → get_or bytes i 0 < 256 = λ i. (c.type_inv.log i).fits in
+    let (checked, figure) = cut_checked M g.met.F.Field.laws n _ bytes fit c.loop-at.at ws c.in_ok-entry.entry.figure.0 c.in_ok-entry.entry.next row long in
     record { sound = inv.0; checked = subst (λ (m : ℕ). RowCheck M m (take n ws) None) (sym inv.1) checked; figure = figure }
 
-pub returns-in-err-join-row : goal.returns-in-err-join-row
-returns-in-err-join-row g c =
+pub returns-in_err-join_row : goal.returns-in_err-join_row
+returns-in_err-join_row g c =
     let M = g.F.Field.model in
     let n = c.count-n.result in
     let inv = c.loop-at.invariant in
-    let e = c.in-err-join-row.field-0.0 in
+    let e = c.in_err-join_row.field-0.0 in
     let bytes = c.args.log.now in
     let at = c.loop-at.at in
-    let ws = c.in-ok-entry.entry.weights in
-    let f = c.in-ok-entry.entry.figure.0 in
-    let next = c.in-ok-entry.entry.next in
-    let row = c.in-ok-entry.ensures in
+    let ws = c.in_ok-entry.entry.weights in
+    let f = c.in_ok-entry.entry.figure.0 in
+    let next = c.in_ok-entry.entry.next in
+    let row = c.in_ok-entry.ensures in
     let whole : length ws ≡ 64 = search rules in
     let long : n ≤ length ws = omega (arith, row_count M n _ _ row.reads.check) in
-    let fit : (i : ℕ) → get_or bytes i 0 < 256 = λ i. (c.type-inv.log i).fits in
+    let fit : (i : ℕ) → get_or bytes i 0 < 256 = λ i. (c.type_inv.log i).fits in
     let reads = cut_reads M g.met.F.Field.laws n _ bytes fit at ws f next row long in
     let k = c.loop-at.row in
     let bad =
     subst (λ (m : ℕ). (before : List Figured) → Recorded M m before (rec_of c.loop-at.held) → JoinCheck M m (record { 0 = k }) before (given_row (take n ws) f) (Some e))
-    inv.1 c.in-err-join-row.ensures.joins in
+    inv.1 c.in_err-join_row.ensures.joins in
     let all = inv.3.2 (Some e) [] (row-kept_out M n k inv.3.0 bytes at c.loop-at-test.true _ f next reads e (bad inv.3.0 inv.3.1)) in
-    let p = err_from_is_err_and c.from-residual-in-err-join-row.result c.from-residual-in-err-join-row.ensures.1 in
+    let p = err_from_is_err_and c.from_residual-in_err-join_row.result c.from_residual-in_err-join_row.ensures.1 in
     rw (p.1, p.2)
     (record {
-      sound = c.join-row.ensures.sound;
-      count = c.join-row.ensures.count ∙ inv.1 ∙ c.count-n.ensures;
+      sound = c.join_row.ensures.sound;
+      count = c.join_row.ensures.count ∙ inv.1 ∙ c.count-n.ensures;
       joins = subst (λ (m : ℕ). RowsJoin M m 0 [] (drop 2 bytes) (Some e) []) c.count-n.ensures all;
     })
 
@@ -89,21 +89,21 @@ loop-at-preserved g c =
     let inv = c.loop-at.invariant in
     let bytes = c.args.log.now in
     let at = c.loop-at.at in
-    let ws = c.in-ok-entry.entry.weights in
-    let f = c.in-ok-entry.entry.figure.0 in
-    let next = c.in-ok-entry.entry.next in
-    let row = c.in-ok-entry.ensures in
+    let ws = c.in_ok-entry.entry.weights in
+    let f = c.in_ok-entry.entry.figure.0 in
+    let next = c.in_ok-entry.entry.next in
+    let row = c.in_ok-entry.ensures in
     let whole : length ws ≡ 64 = search rules in
     let long : n ≤ length ws = omega (arith, row_count M n _ _ row.reads.check) in
-    let fit : (i : ℕ) → get_or bytes i 0 < 256 = λ i. (c.type-inv.log i).fits in
+    let fit : (i : ℕ) → get_or bytes i 0 < 256 = λ i. (c.type_inv.log i).fits in
     let reads = cut_reads M g.met.F.Field.laws n _ bytes fit at ws f next row long in
     let k = c.loop-at.row in
     let G = given_row (take n ws) f in
     let joined =
-    subst (λ (m : ℕ). (before : List Figured) → Recorded M m before (rec_of c.loop-at.held) → JoinCheck M m (record { 0 = k }) before G None × Recorded M m (G ∷ before) (rec_of c.join-row.new.held))
-    inv.1 c.in-ok-join-row.ensures.joins inv.3.0 inv.3.1 in (
-      c.join-row.ensures.sound,
-      c.join-row.ensures.count ∙ inv.1,
+    subst (λ (m : ℕ). (before : List Figured) → Recorded M m before (rec_of c.loop-at.held) → JoinCheck M m (record { 0 = k }) before G None × Recorded M m (G ∷ before) (rec_of c.join_row.new.held))
+    inv.1 c.in_ok-join_row.ensures.joins inv.3.0 inv.3.1 in (
+      c.join_row.ensures.sound,
+      c.join_row.ensures.count ∙ inv.1,
       omega (arith, row.on, inv.2),
       (G ∷ inv.3.0, joined.1, λ r given rest. inv.3.2 r given (row-joined M n k inv.3.0 bytes at c.loop-at-test.true _ f next reads row.on joined.0 r given rest)),
     )
