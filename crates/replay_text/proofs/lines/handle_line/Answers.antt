@@ -10,8 +10,8 @@ use Rattle.replay_text.proofs.lines.handle_line.Goals as goal
 
 pub returns : goal.returns
 returns g c =
-    let M = g.Over.Field.model in
-    let L = g.met.Over.Field.laws in
+    let M = g.S.Over.Field.model in
+    let L = g.met.S.Over.Field.laws in
     let x = c.args.session.now in
     let T = g.S.Server.table x.server in
     let came = c.carry-out-came.result in

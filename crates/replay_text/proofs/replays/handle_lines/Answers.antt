@@ -30,7 +30,7 @@ loop-at-init g c = (
 
 pub loop-at-preserved : goal.loop-at-preserved
 loop-at-preserved g c =
-    let M = g.Over.Field.model in
+    let M = g.S.Over.Field.model in
     let inv = c.loop-at.invariant in
     let x = c.loop-at.session in
     let x' = c.handle-line-used.new.session in
@@ -64,7 +64,7 @@ loop-at-preserved g c =
 
 pub returns-in-Err : goal.returns-in-Err
 returns-in-Err g c =
-    let M = g.Over.Field.model in
+    let M = g.S.Over.Field.model in
     let inv = c.loop-at.invariant in
     let T = g.S.Server.table c.args.session.now.server in
     let wide = c.requires.header.within in
@@ -84,7 +84,7 @@ returns-in-Err g c =
 
 pub returns : goal.returns
 returns g c =
-    let M = g.Over.Field.model in
+    let M = g.S.Over.Field.model in
     let inv = c.loop-at.invariant in
     let T = g.S.Server.table c.args.session.now.server in
     let wide = c.requires.header.within in

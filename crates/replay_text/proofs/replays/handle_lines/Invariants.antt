@@ -6,7 +6,7 @@ use Rattle.replay_text.proofs.replays.handle_lines.Given as goal
 
 abbrev pub invariant-loop-at : goal.invariant-loop-at
 invariant-loop-at g l =
-    let M = g.Over.Field.model in
+    let M = g.S.Over.Field.model in
     let T = g.S.Server.table l.initial.session.server in
     (l.session.server ≡ l.initial.session.server) × Sound M (length T) l.session × (l.at ≤ length l.text) × (l.done.lines ≤ l.at)
     × (l.done.stop ≡ None) × (l.done.answers ≤ length l.answers) × (l.done.log ≤ length l.log)

@@ -25,7 +25,7 @@ returns-then-text-gt-LONGEST g c =
 
 pub returns-in-Ok : goal.returns-in-Ok
 returns-in-Ok g c =
-    let M = g.Over.Field.model in
+    let M = g.S.Over.Field.model in
     let T = g.S.Server.table c.args.session.now.server in
     let table = c.count.ensures.lawful in
     let log = c.args.log.now in

@@ -14,12 +14,12 @@ returns-in-err-permit g c =
     (record {
       sound = at.sound;
       server = at.server;
-      law = try_refused g.Over.Field.model (g.S.Server.table x.server) x c.submit.new.self c.args.row.now c.in-err-permit.field-0.0 at.law;
+      law = try_refused g.S.Over.Field.model (g.S.Server.table x.server) x c.submit.new.self c.args.row.now c.in-err-permit.field-0.0 at.law;
     })
 
 pub returns : goal.returns
 returns g c =
-    let M = g.Over.Field.model in
+    let M = g.S.Over.Field.model in
     let x = c.args.session.now in
     let x₁ = c.submit.new.self in
     let x₂ = c.withdraw.new.self in

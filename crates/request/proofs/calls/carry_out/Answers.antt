@@ -10,7 +10,7 @@ use Rattle.request.proofs.calls.carry_out.Goals as goal
 
 pub returns-in-err-weights : goal.returns-in-err-weights
 returns-in-err-weights g c =
-    let M = g.Over.Field.model in
+    let M = g.S.Over.Field.model in
     let x = c.args.session.now in
     let T = g.S.Server.table x.server in
     let line = c.args.line.now in
@@ -21,7 +21,7 @@ returns-in-err-weights g c =
 
 pub returns-in-Remark : goal.returns-in-Remark
 returns-in-Remark g c =
-    let M = g.Over.Field.model in
+    let M = g.S.Over.Field.model in
     let x = c.args.session.now in
     let T = g.S.Server.table x.server in
     let line = c.args.line.now in
@@ -30,7 +30,7 @@ returns-in-Remark g c =
 
 pub returns-in-err-figure : goal.returns-in-err-figure
 returns-in-err-figure g c =
-    let M = g.Over.Field.model in
+    let M = g.S.Over.Field.model in
     let x = c.args.session.now in
     let x' = c.ask.new.session in
     let T = g.S.Server.table x.server in
@@ -46,7 +46,7 @@ returns-in-err-figure g c =
 
 pub returns-in-ok-figure : goal.returns-in-ok-figure
 returns-in-ok-figure g c =
-    let M = g.Over.Field.model in
+    let M = g.S.Over.Field.model in
     let x = c.args.session.now in
     let x' = c.ask.new.session in
     let T = g.S.Server.table x.server in
@@ -61,7 +61,7 @@ returns-in-ok-figure g c =
 
 pub returns-in-err-attempt : goal.returns-in-err-attempt
 returns-in-err-attempt g c =
-    let M = g.Over.Field.model in
+    let M = g.S.Over.Field.model in
     let x = c.args.session.now in
     let x' = c.attempt.new.session in
     let T = g.S.Server.table x.server in
@@ -77,7 +77,7 @@ returns-in-err-attempt g c =
 
 pub returns-in-ok-attempt : goal.returns-in-ok-attempt
 returns-in-ok-attempt g c =
-    let M = g.Over.Field.model in
+    let M = g.S.Over.Field.model in
     let x = c.args.session.now in
     let x' = c.attempt.new.session in
     let T = g.S.Server.table x.server in
@@ -91,7 +91,7 @@ returns-in-ok-attempt g c =
 
 pub returns-in-err-table : goal.returns-in-err-table
 returns-in-err-table g c =
-    let M = g.Over.Field.model in
+    let M = g.S.Over.Field.model in
     let x = c.args.session.now in
     let T = g.S.Server.table x.server in
     let line = c.args.line.now in
@@ -102,7 +102,7 @@ returns-in-err-table g c =
 
 pub returns-in-ok-table : goal.returns-in-ok-table
 returns-in-ok-table g c =
-    let M = g.Over.Field.model in
+    let M = g.S.Over.Field.model in
     let x = c.args.session.now in
     let T = g.S.Server.table x.server in
     let line = c.args.line.now in

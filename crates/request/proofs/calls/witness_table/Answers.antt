@@ -10,7 +10,7 @@ use Rattle.request.proofs.calls.witness_table.Goals as goal
 
 pub returns-in-err-witness : goal.returns-in-err-witness
 returns-in-err-witness g c =
-    let M = g.Over.Field.model in
+    let M = g.S.Over.Field.model in
     let x = c.args.session.now in
     let T = g.S.Server.table x.server in
     let n = c.count.result in
@@ -23,7 +23,7 @@ returns-in-err-witness g c =
 
 pub returns : goal.returns
 returns g c =
-    let M = g.Over.Field.model in
+    let M = g.S.Over.Field.model in
     let x = c.args.session.now in
     let T = g.S.Server.table x.server in
     let n = c.count.result in

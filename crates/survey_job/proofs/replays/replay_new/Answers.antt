@@ -11,13 +11,13 @@ pub replay-done-requires : goal.replay-done-requires
 replay-done-requires g c =
     record {
       sound =
-          subst (λ (s : _). Sound g.Over.Field.model (length (g.S.Server.table s)) c.new_session.result) (sym c.new_session.ensures.server)
+          subst (λ (s : _). Sound g.S.Over.Field.model (length (g.S.Server.table s)) c.new_session.result) (sym c.new_session.ensures.server)
           c.new_session.ensures.sound;
     }
 
 pub returns : goal.returns
 returns g c =
-    let M = g.Over.Field.model in
+    let M = g.S.Over.Field.model in
     let x = c.new_session.result in
     let r = c.replay-done.result in
     let holds =

@@ -12,16 +12,16 @@ use Rattle.session.proofs.Steps.{answer_refused-steps, answered-steps, other_per
 use Rattle.session.proofs.session.Session.answer_number.Goals as goal
 use Rattle.session.proofs.session.Session.answer_number.Goals.{After-admit}
 
-pub returns-in-default : goal.returns-in-default
-returns-in-default g c =
+pub returns-in_default : goal.returns-in_default
+returns-in_default g c =
     let x = c.args.self.now in
     record {
       sound = c.requires.sound;
       server = refl;
       kept = refl;
       law =
-          answer_refused-steps g.Over.Field.model g.met.Over.Field.laws (g.S.Server.table x.server) x c.args.number
-          (λ p e. absurd (c.in-default.not-Some p e));
+          answer_refused-steps g.S.Over.Field.model g.met.S.Over.Field.laws (g.S.Server.table x.server) x c.args.number
+          (λ p e. absurd (c.in_default.not-Some p e));
     }
 
 pub returns-then-row-number : goal.returns-then-row-number
@@ -32,14 +32,14 @@ returns-then-row-number g c =
       server = refl;
       kept = refl;
       law =
-          answer_refused-steps g.Over.Field.model g.met.Over.Field.laws (g.S.Server.table x.server) x c.args.number
+          answer_refused-steps g.S.Over.Field.model g.met.S.Over.Field.laws (g.S.Server.table x.server) x c.args.number
           (other_permit x c.in-Some.row c.args.number c.in-Some.is c.if-row-number.true);
     }
 
 -- the open row was granted, over as many members as the table has
-granted : (g : _) (c : After-admit g) → Granted g.Over.Field.model (length (g.S.Server.table c.args.self.now.server)) (rec_of c.args.self.now.record) (Some c.in-Some.row)
+granted : (g : _) (c : After-admit g) → Granted g.S.Over.Field.model (length (g.S.Server.table c.args.self.now.server)) (rec_of c.args.self.now.record) (Some c.in-Some.row)
 granted g c =
-    subst (λ (o : Option OpenRow). Granted g.Over.Field.model (length (g.S.Server.table c.args.self.now.server)) (rec_of c.args.self.now.record) o) c.in-Some.is
+    subst (λ (o : Option OpenRow). Granted g.S.Over.Field.model (length (g.S.Server.table c.args.self.now.server)) (rec_of c.args.self.now.record) o) c.in-Some.is
     c.requires.sound.granted
 
 cut : (g : _) (c : After-admit g) → take (c.count.result - 0) c.in-Some.row.weights ≡ take (length (g.S.Server.table c.args.self.now.server)) c.in-Some.row.weights
@@ -50,38 +50,38 @@ cut g c =
 went_in :
     (g : _) (c : After-admit g)
     → (is_ok c.admit.result ≡ true)
-    × Adds g.Over.Field.model (length (g.S.Server.table c.args.self.now.server)) (rec_of c.args.self.now.record)
-    (given_row (take (length (g.S.Server.table c.args.self.now.server)) c.in-Some.row.weights) c.row-sum-figure.result.0) (rec_of c.admit.new.self)
+    × Adds g.S.Over.Field.model (length (g.S.Server.table c.args.self.now.server)) (rec_of c.args.self.now.record)
+    (given_row (take (length (g.S.Server.table c.args.self.now.server)) c.in-Some.row.weights) c.row_sum-figure.result.0) (rec_of c.admit.new.self)
 went_in g c =
-    let M = g.Over.Field.model in
+    let M = g.S.Over.Field.model in
     let x = c.args.self.now in
     let T = g.S.Server.table x.server in
     let row = granted g c in
     let admitted =
-    subst (λ (n : ℕ). Admitted M n (rec_of x.record) (take (length T) c.in-Some.row.weights) c.row-sum-figure.result.0 (rec_of c.admit.new.self) c.admit.result) c.requires.sound.count
-    (subst (λ (ws : List Element). Admitted M x.record.count (rec_of x.record) ws c.row-sum-figure.result.0 (rec_of c.admit.new.self) c.admit.result) (cut g c)
+    subst (λ (n : ℕ). Admitted M n (rec_of x.record) (take (length T) c.in-Some.row.weights) c.row_sum-figure.result.0 (rec_of c.admit.new.self) c.admit.result) c.requires.sound.count
+    (subst (λ (ws : List Element). Admitted M x.record.count (rec_of x.record) ws c.row_sum-figure.result.0 (rec_of c.admit.new.self) c.admit.result) (cut g c)
     c.admit.ensures.admitted) in
-    admit_succeeds M (length T) (rec_of x.record) (take (length T) c.in-Some.row.weights) c.row-sum-figure.result.0 (rec_of c.admit.new.self) c.admit.result
-    admitted row.0 c.row-sum-figure.ensures.within row.1
+    admit_succeeds M (length T) (rec_of x.record) (take (length T) c.in-Some.row.weights) c.row_sum-figure.result.0 (rec_of c.admit.new.self) c.admit.result
+    admitted row.0 c.row_sum-figure.ensures.within row.1
 
 pub unreachable-requires : goal.unreachable-requires
 unreachable-requires g c =
     let ok = (went_in g (goal.at.unreachable-requires g c).After-admit).0 in
-    clash (sym c.if-is-err.ensures.negation ∙ ok)
+    clash (sym c.if-is_err.ensures.negation ∙ ok)
 
 pub returns : goal.returns
 returns g c =
-    let M = g.Over.Field.model in
+    let M = g.S.Over.Field.model in
     let x = c.args.self.now in
     let T = g.S.Server.table x.server in
     let here = (goal.at.returns g c).After-admit in
-    let figure : c.row-sum-figure.result.0 ≡ sum M (length T) (weights_of (take (length T) c.in-Some.row.weights)) (value_at T) =
-    c.row-sum-figure.ensures.is ∙ ap (λ l. sum M (length T) (weights_of l) (value_at T)) (cut g here) in
+    let figure : c.row_sum-figure.result.0 ≡ sum M (length T) (weights_of (take (length T) c.in-Some.row.weights)) (value_at T) =
+    c.row_sum-figure.ensures.is ∙ ap (λ l. sum M (length T) (weights_of l) (value_at T)) (cut g here) in
     record {
       sound = record { count = c.admit.ensures.count ∙ c.requires.sound.count; record_sound = c.admit.ensures.sound; granted = tt };
       server = refl;
       kept = refl;
       law =
-          answered-steps M g.met.Over.Field.laws T x (record { server = x.server; «record» = c.admit.new.self; issued = x.issued; pending = None }) c.in-Some.row
-          c.args.number c.row-sum-figure.result.0 c.if-row-number.false c.in-Some.is (granted g here).0 figure (went_in g here).1 refl refl;
+          answered-steps M g.met.S.Over.Field.laws T x (record { server = x.server; «record» = c.admit.new.self; issued = x.issued; pending = None }) c.in-Some.row
+          c.args.number c.row_sum-figure.result.0 c.if-row-number.false c.in-Some.is (granted g here).0 figure (went_in g here).1 refl refl;
     }

@@ -11,8 +11,8 @@ use Rattle.session.proofs.session.Session.new.Goals as goal
 
 pub returns : goal.returns
 returns g c =
-    let M = g.Over.Field.model in
-    let L = g.met.Over.Field.laws in
+    let M = g.S.Over.Field.model in
+    let L = g.met.S.Over.Field.laws in
     let T = g.S.Server.table c.args.server in
     let none : rec_of c.new.result ≡ [] = c.new.ensures.empty in
     let count : c.new.result.count ≡ length T =

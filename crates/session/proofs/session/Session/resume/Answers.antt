@@ -15,20 +15,20 @@ use Rattle.session.proofs.session.Session.resume.Goals as goal
 
 pub returns : goal.returns
 returns g c =
-    let M = g.Over.Field.model in
-    let L = g.met.Over.Field.laws in
+    let M = g.S.Over.Field.model in
+    let L = g.met.S.Over.Field.laws in
     let T = g.S.Server.table c.args.server in
     let table = c.count-count.ensures.lawful in
     let size = c.count-count.ensures.is in
-    let read = c.read-record-record.result in
-    let told = c.read-record-record.ensures in
+    let read = c.read_record-record.result in
+    let told = c.read_record-record.ensures in
     let bytes = c.args.log.now in
     let x : Session g.row.S.Denot g.row.S-Over.Denot =
-    record { server = c.args.server; «record» = read.record; issued = c.issued-after.result; pending = None } in
+    record { server = c.args.server; «record» = read.record; issued = c.issued_after.result; pending = None } in
     let (given, log, form) =
     subst (λ (n : ℕ). (given : List Figured) × LogRecord M n bytes read.refusal given × ReducedForm M n given (rec_of read.record)) size told.log in
     let resumes : Resumes M T x bytes read.refusal =
-    (given, log, holds_after M L T x refl bytes read.refusal given log form told.empty c.issued-after.ensures) in
+    (given, log, holds_after M L T x refl bytes read.refusal given log form told.empty c.issued_after.ensures) in
     record {
       server = refl;
       sound = record {
@@ -38,7 +38,7 @@ returns g c =
       };
       resumes = resumes;
       empty = told.empty;
-      written = λ given log. accepted_is_written_lem M (length T) bytes (λ i. (c.type-inv.log i).fits) given log;
+      written = λ given log. accepted_is_written_lem M (length T) bytes (λ i. (c.type_inv.log i).fits) given log;
       own = own_log M L T x refl (table.some, table.few) bytes read.refusal resumes;
       possible = possible_after_a_log_lem;
     }

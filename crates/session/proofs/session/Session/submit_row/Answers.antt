@@ -12,16 +12,16 @@ use Rattle.session.proofs.Admitted.{pinned_lowest}
 use Rattle.session.proofs.Steps.{submit_open_steps, submit_spent_steps, submit_bad_steps, submit_disclosing_steps, granted-steps, judged-free_of}
 use Rattle.session.proofs.session.Session.submit_row.Goals as goal
 
-pub returns-then-is-some : goal.returns-then-is-some
-returns-then-is-some g c =
+pub returns-then-is_some : goal.returns-then-is_some
+returns-then-is_some g c =
     let x = c.args.self.now in
     record {
       sound = c.requires.sound;
       server = refl;
       kept = refl;
       law =
-          submit_open_steps g.Over.Field.model g.met.Over.Field.laws (g.S.Server.table x.server) x c.args.weights.now
-          (sym c.is-some.ensures ∙ c.if-is-some.true);
+          submit_open_steps g.S.Over.Field.model g.met.S.Over.Field.laws (g.S.Server.table x.server) x c.args.weights.now
+          (sym c.is_some.ensures ∙ c.if-is_some.true);
     }
 
 pub returns-then-self : goal.returns-then-self
@@ -32,36 +32,36 @@ returns-then-self g c =
       server = refl;
       kept = refl;
       law =
-          submit_spent_steps g.Over.Field.model g.met.Over.Field.laws (g.S.Server.table x.server) x c.args.weights.now
-          (sym c.is-some.ensures ∙ c.if-is-some.false) c.if-self.true;
+          submit_spent_steps g.S.Over.Field.model g.met.S.Over.Field.laws (g.S.Server.table x.server) x c.args.weights.now
+          (sym c.is_some.ensures ∙ c.if-is_some.false) c.if-self.true;
     }
 
-pub returns-in-err-i : goal.returns-in-err-i
-returns-in-err-i g c =
-    let M = g.Over.Field.model in
+pub returns-in_err-i : goal.returns-in_err-i
+returns-in_err-i g c =
+    let M = g.S.Over.Field.model in
     let x = c.args.self.now in
     let T = g.S.Server.table x.server in
     let ws = c.args.weights.now in
-    let e = c.in-err-i.field-0.0 in
+    let e = c.in_err-i.field-0.0 in
     let left : x.issued < 65535 = let ne = c.if-self.false in omega arith in
-    let fails : RowCheck M (length T) ws (Some e) = subst (λ (n : ℕ). RowCheck M n ws (Some e)) c.requires.sound.count c.in-err-i.ensures in
-    let p = err_from_is_err_and c.from-residual.result c.from-residual.ensures.1 in
+    let fails : RowCheck M (length T) ws (Some e) = subst (λ (n : ℕ). RowCheck M n ws (Some e)) c.requires.sound.count c.in_err-i.ensures in
+    let p = err_from_is_err_and c.from_residual.result c.from_residual.ensures.1 in
     rw (p.1, p.2)
     (record {
       sound = c.requires.sound;
       server = refl;
       kept = refl;
-      law = submit_bad_steps M g.met.Over.Field.laws T x ws (sym c.is-some.ensures ∙ c.if-is-some.false) left e fails;
+      law = submit_bad_steps M g.met.S.Over.Field.laws T x ws (sym c.is_some.ensures ∙ c.if-is_some.false) left e fails;
     })
 
 pub returns-in-Pinning : goal.returns-in-Pinning
 returns-in-Pinning g c =
-    let M = g.Over.Field.model in
+    let M = g.S.Over.Field.model in
     let x = c.args.self.now in
     let T = g.S.Server.table x.server in
     let ws = c.args.weights.now in
     let left : x.issued < 65535 = let ne = c.if-self.false in omega arith in
-    let judged = c.in-ok-i.ensures in
+    let judged = c.in_ok-i.ensures in
     let passed : RowCheck M (length T) ws None = subst (λ (n : ℕ). RowCheck M n ws None) c.requires.sound.count judged.0 in
     let low : Lowest (PinnedWith M (length T) (rec_of x.record) (weights_of ws)) c.in-Pinning.i.0 =
     subst (λ (n : ℕ). Lowest (PinnedWith M n (rec_of x.record) (weights_of ws)) c.in-Pinning.i.0) c.requires.sound.count
@@ -71,29 +71,29 @@ returns-in-Pinning g c =
       server = refl;
       kept = refl;
       law =
-          submit_disclosing_steps M g.met.Over.Field.laws T x ws (sym c.is-some.ensures ∙ c.if-is-some.false) left c.in-Pinning.i.0 passed low;
+          submit_disclosing_steps M g.met.S.Over.Field.laws T x ws (sym c.is_some.ensures ∙ c.if-is_some.false) left c.in-Pinning.i.0 passed low;
     }
 
 pub padded-requires : goal.padded-requires
 padded-requires g c =
     let x = c.args.self.now in
     let few = x.record.members.1 in
-    let size = row_length_lem g.Over.Field.model _ _ c.in-ok-i.ensures.0 in
+    let size = row_length_lem g.S.Over.Field.model _ _ c.in_ok-i.ensures.0 in
     omega arith
 
 pub returns : goal.returns
 returns g c =
-    let M = g.Over.Field.model in
-    let L = g.met.Over.Field.laws in
+    let M = g.S.Over.Field.model in
+    let L = g.met.S.Over.Field.laws in
     let x = c.args.self.now in
     let T = g.S.Server.table x.server in
     let ws = c.args.weights.now in
     let left : x.issued < 65535 = let ne = c.if-self.false in omega arith in
-    let judged = c.in-ok-i.ensures in
+    let judged = c.in_ok-i.ensures in
     let passed : RowCheck M (length T) ws None = subst (λ (n : ℕ). RowCheck M n ws None) c.requires.sound.count judged.0 in
     let free : (i : ℕ) → PinnedWith M (length T) (rec_of x.record) (weights_of ws) i → ⊥ =
     subst (λ (n : ℕ). (i : ℕ) → PinnedWith M n (rec_of x.record) (weights_of ws) i → ⊥) c.requires.sound.count
-    (judged-free_of M L _ _ (reduced_of M x.record c.requires.sound.record_sound) x.record.none_alone (weights_of ws) c.in-ok-i.field-0 judged.1 c.in-default.not-Pinning) in
+    (judged-free_of M L _ _ (reduced_of M x.record c.requires.sound.record_sound) x.record.none_alone (weights_of ws) c.in_ok-i.field-0 judged.1 c.in_default.not-Pinning) in
     let cut : take (length T) c.padded.result ≡ ws =
     ap (λ k. take k c.padded.result) (sym (row_length_lem M (length T) ws passed)) ∙ c.padded.ensures.front in
     record {
@@ -108,7 +108,7 @@ returns g c =
       server = refl;
       kept = refl;
       law =
-          granted-steps M L T x ws (sym c.is-some.ensures ∙ c.if-is-some.false) left
+          granted-steps M L T x ws (sym c.is_some.ensures ∙ c.if-is_some.false) left
           (record {
             server = x.server;
             «record» = x.record;

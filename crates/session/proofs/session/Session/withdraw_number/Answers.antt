@@ -2,16 +2,16 @@ use Rattle.std.proofs.Common.{None, refl}
 use Rattle.session.proofs.Steps.{withdrawal_refused-steps, withdrawn-steps, other_permit}
 use Rattle.session.proofs.session.Session.withdraw_number.Goals as goal
 
-pub returns-in-default : goal.returns-in-default
-returns-in-default g c =
+pub returns-in_default : goal.returns-in_default
+returns-in_default g c =
     let x = c.args.self.now in
     record {
       sound = c.requires.sound;
       server = refl;
       kept = refl;
       law =
-          withdrawal_refused-steps g.Over.Field.model g.met.Over.Field.laws (g.S.Server.table x.server) x c.args.number
-          (λ p e. absurd (c.in-default.not-Some p e));
+          withdrawal_refused-steps g.S.Over.Field.model g.met.S.Over.Field.laws (g.S.Server.table x.server) x c.args.number
+          (λ p e. absurd (c.in_default.not-Some p e));
     }
 
 pub returns-then-row-number : goal.returns-then-row-number
@@ -22,7 +22,7 @@ returns-then-row-number g c =
       server = refl;
       kept = refl;
       law =
-          withdrawal_refused-steps g.Over.Field.model g.met.Over.Field.laws (g.S.Server.table x.server) x c.args.number
+          withdrawal_refused-steps g.S.Over.Field.model g.met.S.Over.Field.laws (g.S.Server.table x.server) x c.args.number
           (other_permit x c.in-Some.row c.args.number c.in-Some.is c.if-row-number.true);
     }
 
@@ -34,7 +34,7 @@ returns g c =
       server = refl;
       kept = (refl, refl);
       law =
-          withdrawn-steps g.Over.Field.model g.met.Over.Field.laws (g.S.Server.table x.server) x
+          withdrawn-steps g.S.Over.Field.model g.met.S.Over.Field.laws (g.S.Server.table x.server) x
           (record { server = x.server; «record» = x.record; issued = x.issued; pending = None }) c.in-Some.row
           c.args.number c.if-row-number.false c.in-Some.is refl refl refl;
     }

@@ -14,14 +14,14 @@ use Rattle.session.proofs.Witnessed.{Own, own-check, buffer-length}
 use Rattle.session.proofs.session.Session.witness_reply.Goals as goal
 use Rattle.session.proofs.session.Session.witness_reply.Goals.{Joined-buffer-le64, then-buffer-le64, else-buffer-le64}
 
-own-buffer : (g : _) (c : Joined-buffer-le64 g) → Own c.if-buffer-le64.own_val c.args.buffer
+own-buffer : (g : _) (c : Joined-buffer-le64 g) → Own c.if-buffer-le64.own c.args.buffer
 own-buffer g c =
     elim c.if-buffer-le64.branch [
       | then-buffer-le64 w ↦ inl (w.if-buffer-le64.true, w.own-is)
       | else-buffer-le64 w ↦ inr (w.if-buffer-le64.false, w.own-is)
     ]
 
-own-few : (g : _) (c : Joined-buffer-le64 g) → c.if-buffer-le64.own_val ≤ 64
+own-few : (g : _) (c : Joined-buffer-le64 g) → c.if-buffer-le64.own ≤ 64
 own-few g c =
     elim c.if-buffer-le64.branch [
       | then-buffer-le64 w ↦ omega (arith, w.if-buffer-le64.true, w.own-is)
@@ -30,12 +30,12 @@ own-few g c =
 
 pub returns-in-Ok : goal.returns-in-Ok
 returns-in-Ok g c =
-    let M = g.Over.Field.model in
-    let L = g.met.Over.Field.laws in
+    let M = g.S.Over.Field.model in
+    let L = g.met.S.Over.Field.laws in
     let x = c.args.self.now in
     let T = g.S.Server.table x.server in
     let here = (goal.at.returns-in-Ok g c).Joined-buffer-le64 in
-    let own = c.if-buffer-le64.own_val in
+    let own = c.if-buffer-le64.own in
     let i = c.args.member.0 in
     let a = c.args.element.0 in
     let facts = c.in-Ok.ensures in
@@ -55,11 +55,11 @@ returns-in-Ok g c =
 
 pub returns-in-Err : goal.returns-in-Err
 returns-in-Err g c =
-    let M = g.Over.Field.model in
+    let M = g.S.Over.Field.model in
     let x = c.args.self.now in
     let T = g.S.Server.table x.server in
     let here = (goal.at.returns-in-Err g c).Joined-buffer-le64 in
-    let own = c.if-buffer-le64.own_val in
+    let own = c.if-buffer-le64.own in
     let i = c.args.member.0 in
     let a = c.args.element.0 in
     let e = c.in-Err.e in
@@ -69,4 +69,4 @@ returns-in-Err g c =
     let brought : WitnessCheck M (length T) i a c.args.buffer (Some e) =
     subst (λ (n : ℕ). WitnessCheck M n i a c.args.buffer (Some e)) c.requires.sound.count
     (own-check M x.record.count i a own c.args.buffer (Some e) members.0 members.1 (own-buffer g here) fails) in
-    record { past = tt; law = witness-refused-steps M g.met.Over.Field.laws T x i a c.args.buffer e brought }
+    record { past = tt; law = witness-refused-steps M g.met.S.Over.Field.laws T x i a c.args.buffer e brought }

@@ -5,9 +5,9 @@ use Rattle.session.proofs.session.calls.padded.Goals as goal
 
 pub returns : goal.returns
 returns c =
-    let copied = c.copy-from-slice.ensures.after in
+    let copied = c.copy_from_slice.ensures.after in
     let size = length c.args.weights.now in
     record {
-      front = take_at c.copy-from-slice.new.self _ size (ap length copied) ∙ copied;
-      rest = zero_past c.copy-from-slice.new.self size (size - 0) (ap length copied);
+      front = take_at c.copy_from_slice.new.self _ size (ap length copied) ∙ copied;
+      rest = zero_past c.copy_from_slice.new.self size (size - 0) (ap length copied);
     }
