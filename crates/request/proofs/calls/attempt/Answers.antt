@@ -5,16 +5,16 @@ use Rattle.session.specs.Views.{Sound, Steps, withdrawal_reply}
 use Rattle.request.proofs.Spent.{try_refused, try_withdrawn}
 use Rattle.request.proofs.calls.attempt.Goals as goal
 
-pub returns-in-err-permit : goal.returns-in-err-permit
-returns-in-err-permit g c =
+pub returns-in_err-permit : goal.returns-in_err-permit
+returns-in_err-permit g c =
     let x = c.args.session.now in
-    let at = c.in-err-permit.ensures in
-    let p = err_from_is_err_and c.from-residual.result c.from-residual.ensures.1 in
+    let at = c.in_err-permit.ensures in
+    let p = err_from_is_err_and c.from_residual.result c.from_residual.ensures.1 in
     rw (p.1, p.2)
     (record {
       sound = at.sound;
       server = at.server;
-      law = try_refused g.S.Over.Field.model (g.S.Server.table x.server) x c.submit.new.self c.args.row.now c.in-err-permit.field-0.0 at.law;
+      law = try_refused g.S.Over.Field.model (g.S.Server.table x.server) x c.submit.new.self c.args.row.now c.in_err-permit.field-0.0 at.law;
     })
 
 pub returns : goal.returns
@@ -24,12 +24,12 @@ returns g c =
     let x₁ = c.submit.new.self in
     let x₂ = c.withdraw.new.self in
     let T = g.S.Server.table x.server in
-    let at = c.in-ok-permit.ensures in
+    let at = c.in_ok-permit.ensures in
     let tables : g.S.Server.table x₁.server ≡ T = ap g.S.Server.table at.server in
-    let step : Steps M T x₁ (withdraws c.in-ok-permit.permit.number) (withdrawal_reply c.withdraw.result) x₂ =
-    subst (λ (l : List ℕ). Steps M l x₁ (withdraws c.in-ok-permit.permit.number) (withdrawal_reply c.withdraw.result) x₂) tables c.withdraw.ensures.law in
+    let step : Steps M T x₁ (withdraws c.in_ok-permit.permit.number) (withdrawal_reply c.withdraw.result) x₂ =
+    subst (λ (l : List ℕ). Steps M l x₁ (withdraws c.in_ok-permit.permit.number) (withdrawal_reply c.withdraw.result) x₂) tables c.withdraw.ensures.law in
     record {
       sound = subst (λ (l : List ℕ). Sound M (length l) x₂) tables c.withdraw.ensures.sound;
       server = c.withdraw.ensures.server ∙ at.server;
-      law = try_withdrawn M T x x₁ c.args.row.now c.in-ok-permit.permit.number at.law x₂ c.withdraw.result step;
+      law = try_withdrawn M T x x₁ c.args.row.now c.in_ok-permit.permit.number at.law x₂ c.withdraw.result step;
     }

@@ -8,15 +8,15 @@ use Rattle.request.specs.Carried.{Leads}
 use Rattle.request.proofs.Lines.{read_as, remark-line, faulty-line, asked-line, tried-line, witness-line}
 use Rattle.request.proofs.calls.carry_out.Goals as goal
 
-pub returns-in-err-weights : goal.returns-in-err-weights
-returns-in-err-weights g c =
+pub returns-in_err-weights : goal.returns-in_err-weights
+returns-in_err-weights g c =
     let M = g.S.Over.Field.model in
     let x = c.args.session.now in
     let T = g.S.Server.table x.server in
     let line = c.args.line.now in
-    let is : reading (limits M (length T)) line ≡ Err c.in-err-weights.field-0.0 =
-    ap (λ n. reading (limits M n) line) (sym c.count-n.ensures.members) ∙ sym c.in-err-weights.ensures.is in
-    let p = err_from_is_err_and c.from-residual.result c.from-residual.ensures.1 in
+    let is : reading (limits M (length T)) line ≡ Err c.in_err-weights.field-0.0 =
+    ap (λ n. reading (limits M n) line) (sym c.count-n.ensures.members) ∙ sym c.in_err-weights.ensures.is in
+    let p = err_from_is_err_and c.from_residual.result c.from_residual.ensures.1 in
     rw (p.1, p.2) (record { sound = c.requires.sound; server = refl; read = is; law = faulty-line M T x x line _ is })
 
 pub returns-in-Remark : goal.returns-in-Remark
@@ -25,87 +25,87 @@ returns-in-Remark g c =
     let x = c.args.session.now in
     let T = g.S.Server.table x.server in
     let line = c.args.line.now in
-    let is = read_as M line c.count-n.ensures.members c.in-ok-weights.ensures.is c.in-Remark.is in
+    let is = read_as M line c.count-n.ensures.members c.in_ok-weights.ensures.is c.in-Remark.is in
     record { sound = c.requires.sound; server = refl; read = is; law = remark-line M T x x line is }
 
-pub returns-in-err-figure : goal.returns-in-err-figure
-returns-in-err-figure g c =
+pub returns-in_err-figure-in-Ask : goal.returns-in_err-figure-in-Ask
+returns-in_err-figure-in-Ask g c =
     let M = g.S.Over.Field.model in
     let x = c.args.session.now in
     let x' = c.ask.new.session in
     let T = g.S.Server.table x.server in
     let line = c.args.line.now in
     let w = c.in-Ask.weights in
-    let e = c.in-err-figure.field-0.0 in
-    let is = read_as M line c.count-n.ensures.members c.in-ok-weights.ensures.is c.in-Ask.is in
+    let e = c.in_err-figure-in-Ask.field-0.0 in
+    let is = read_as M line c.count-n.ensures.members c.in_ok-weights.ensures.is c.in-Ask.is in
     let size : c.count-n.result - 0 ≡ length T = omega (arith, c.count-n.ensures.members) in
-    let at = c.in-err-figure.ensures in
+    let at = c.in_err-figure-in-Ask.ensures in
     let leads = subst (λ (k : ℕ). Leads M T x x' (λ s h. Asked M (length T) (value_at T) s h (take k w.0) (refused e))) size at.law in
-    let p = err_from_is_err_and c.from-residual-in-err-figure.result c.from-residual-in-err-figure.ensures.1 in
+    let p = err_from_is_err_and c.from_residual-in_err-figure-in-Ask.result c.from_residual-in_err-figure-in-Ask.ensures.1 in
     rw (p.1, p.2) (record { sound = at.sound; server = at.server; read = (_, is); law = asked-line M T x x' line w (refused e) is leads })
 
-pub returns-in-ok-figure : goal.returns-in-ok-figure
-returns-in-ok-figure g c =
+pub returns-in_ok-figure-in-Ask : goal.returns-in_ok-figure-in-Ask
+returns-in_ok-figure-in-Ask g c =
     let M = g.S.Over.Field.model in
     let x = c.args.session.now in
     let x' = c.ask.new.session in
     let T = g.S.Server.table x.server in
     let line = c.args.line.now in
     let w = c.in-Ask.weights in
-    let v = c.in-ok-figure.figure.0 in
-    let is = read_as M line c.count-n.ensures.members c.in-ok-weights.ensures.is c.in-Ask.is in
+    let v = c.in_ok-figure-in-Ask.figure.0 in
+    let is = read_as M line c.count-n.ensures.members c.in_ok-weights.ensures.is c.in-Ask.is in
     let size : c.count-n.result - 0 ≡ length T = omega (arith, c.count-n.ensures.members) in
-    let at = c.in-ok-figure.ensures in
+    let at = c.in_ok-figure-in-Ask.ensures in
     let leads = subst (λ (k : ℕ). Leads M T x x' (λ s h. Asked M (length T) (value_at T) s h (take k w.0) (gives v))) size at.law in
     record { sound = at.sound; server = at.server; read = is; law = asked-line M T x x' line w (gives v) is leads }
 
-pub returns-in-err-attempt : goal.returns-in-err-attempt
-returns-in-err-attempt g c =
+pub returns-in_err-attempt-in-Try : goal.returns-in_err-attempt-in-Try
+returns-in_err-attempt-in-Try g c =
     let M = g.S.Over.Field.model in
     let x = c.args.session.now in
     let x' = c.attempt.new.session in
     let T = g.S.Server.table x.server in
     let line = c.args.line.now in
     let w = c.in-Try.weights in
-    let e = c.in-err-attempt.field-0.0 in
-    let is = read_as M line c.count-n.ensures.members c.in-ok-weights.ensures.is c.in-Try.is in
+    let e = c.in_err-attempt-in-Try.field-0.0 in
+    let is = read_as M line c.count-n.ensures.members c.in_ok-weights.ensures.is c.in-Try.is in
     let size : c.count-n.result - 0 ≡ length T = omega (arith, c.count-n.ensures.members) in
-    let at = c.in-err-attempt.ensures in
+    let at = c.in_err-attempt-in-Try.ensures in
     let leads = subst (λ (k : ℕ). Leads M T x x' (λ s h. Tried M (length T) (value_at T) s h (take k w.0) (refused e))) size at.law in
-    let p = err_from_is_err_and c.from-residual-in-err-attempt.result c.from-residual-in-err-attempt.ensures.1 in
+    let p = err_from_is_err_and c.from_residual-in_err-attempt-in-Try.result c.from_residual-in_err-attempt-in-Try.ensures.1 in
     rw (p.1, p.2) (record { sound = at.sound; server = at.server; read = (_, is); law = tried-line M T x x' line w (refused e) is leads })
 
-pub returns-in-ok-attempt : goal.returns-in-ok-attempt
-returns-in-ok-attempt g c =
+pub returns-in_ok-attempt-in-Try : goal.returns-in_ok-attempt-in-Try
+returns-in_ok-attempt-in-Try g c =
     let M = g.S.Over.Field.model in
     let x = c.args.session.now in
     let x' = c.attempt.new.session in
     let T = g.S.Server.table x.server in
     let line = c.args.line.now in
     let w = c.in-Try.weights in
-    let is = read_as M line c.count-n.ensures.members c.in-ok-weights.ensures.is c.in-Try.is in
+    let is = read_as M line c.count-n.ensures.members c.in_ok-weights.ensures.is c.in-Try.is in
     let size : c.count-n.result - 0 ≡ length T = omega (arith, c.count-n.ensures.members) in
-    let at = c.in-ok-attempt.ensures in
+    let at = c.in_ok-attempt-in-Try.ensures in
     let leads = subst (λ (k : ℕ). Leads M T x x' (λ s h. Tried M (length T) (value_at T) s h (take k w.0) takes_back)) size at.law in
     record { sound = at.sound; server = at.server; read = (w, is); law = tried-line M T x x' line w takes_back is leads }
 
-pub returns-in-err-table : goal.returns-in-err-table
-returns-in-err-table g c =
+pub returns-in_err-table-in-Witness : goal.returns-in_err-table-in-Witness
+returns-in_err-table-in-Witness g c =
     let M = g.S.Over.Field.model in
     let x = c.args.session.now in
     let T = g.S.Server.table x.server in
     let line = c.args.line.now in
-    let is = read_as M line c.count-n.ensures.members c.in-ok-weights.ensures.is c.in-Witness.is in
-    let p = err_from_is_err_and c.from-residual-in-err-table.result c.from-residual-in-err-table.ensures.1 in
+    let is = read_as M line c.count-n.ensures.members c.in_ok-weights.ensures.is c.in-Witness.is in
+    let p = err_from_is_err_and c.from_residual-in_err-table-in-Witness.result c.from_residual-in_err-table-in-Witness.ensures.1 in
     rw (p.1, p.2)
-    (record { sound = c.requires.sound; server = refl; read = (_, is); law = witness-line M T x x line _ _ _ is c.in-err-table.ensures.law })
+    (record { sound = c.requires.sound; server = refl; read = (_, is); law = witness-line M T x x line _ _ _ is c.in_err-table-in-Witness.ensures.law })
 
-pub returns-in-ok-table : goal.returns-in-ok-table
-returns-in-ok-table g c =
+pub returns-in_ok-table-in-Witness : goal.returns-in_ok-table-in-Witness
+returns-in_ok-table-in-Witness g c =
     let M = g.S.Over.Field.model in
     let x = c.args.session.now in
     let T = g.S.Server.table x.server in
     let line = c.args.line.now in
-    let is = read_as M line c.count-n.ensures.members c.in-ok-weights.ensures.is c.in-Witness.is in
-    let at = c.in-ok-table.ensures in
+    let is = read_as M line c.count-n.ensures.members c.in_ok-weights.ensures.is c.in-Witness.is in
+    let at = c.in_ok-table-in-Witness.ensures in
     record { sound = c.requires.sound; server = refl; read = ((_, _, is), at.zero); law = witness-line M T x x line _ _ _ is at.law }
