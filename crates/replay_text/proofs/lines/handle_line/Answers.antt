@@ -14,7 +14,7 @@ returns g c =
     let L = g.met.S.Over.Field.laws in
     let x = c.args.session.now in
     let T = g.S.Server.table x.server in
-    let came = c.carry-out-came.result in
+    let came = c.carry_out-came.result in
     let answers = c.args.answers.now in
     let log = c.args.log.now in
     let number = c.args.number in
@@ -26,14 +26,14 @@ returns g c =
     subst (λ (n : ℕ). Loggable M n (length log) came → Put (rows_bytes M n (outcome_rows n came)) log c.note.new.log c.note.result)
     c.count-n.ensures.members c.note.ensures.put in
     record {
-      sound = c.carry-out-came.ensures.sound;
-      server = c.carry-out-came.ensures.server;
+      sound = c.carry_out-came.ensures.sound;
+      server = c.carry_out-came.ensures.server;
       within = (c.print.ensures.within, c.note.ensures.within);
       lengths = (c.print.ensures.length, c.note.ensures.length);
       done =
           λ s h H.
-          let p = c.carry-out-came.ensures.law s h H in
+          let p = c.carry_out-came.ensures.law s h H in
           let fits = line-fits M L T table x s h H c.args.line.now _ _ p.0 p.1 number c.requires.number in
-          let loggable = line-loggable M L T table x s h H c.args.line.now came p.0 p.1 c.carry-out-came.ensures.read (length log) c.requires.log in
+          let loggable = line-loggable M L T table x s h H c.args.line.now came p.0 p.1 c.carry_out-came.ensures.read (length log) c.requires.log in
           (p.0, (_, _, p.1, prints (omega (arith, fits, c.requires.answers)), logs loggable), p.2);
     }

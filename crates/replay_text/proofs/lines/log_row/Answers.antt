@@ -17,11 +17,11 @@ returns-in-Ok g c =
     let whole : take (n - 0) c.args.weights.now.0 ≡ take n c.args.weights.now.0 = ap (λ k. take k c.args.weights.now.0) (omega arith) in
     let at = c.in-Ok.ensures in
     let room = row_write_room M n _ f (length log) at.0 in
-    let front = front_of_put log c.write-row.new.out _ c.in-Ok.written at.1 room in
+    let front = front_of_put log c.write_row.new.out _ c.in-Ok.written at.1 room in
     record {
       within = front.within;
       length = same_length log _ _ _ front;
-      put = λ _. subst (λ (ws : List Element). Put (row_bytes M n (weights_of ws) f) log c.write-row.new.out c.in-Ok.written) whole at.1;
+      put = λ _. subst (λ (ws : List Element). Put (row_bytes M n (weights_of ws) f) log c.write_row.new.out c.in-Ok.written) whole at.1;
       none = λ no. absurd (no (subst (λ (ws : List Element). RowWrite M n ws f (length log) None) whole at.0));
     }
 

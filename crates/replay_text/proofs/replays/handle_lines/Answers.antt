@@ -33,7 +33,7 @@ loop-at-preserved g c =
     let M = g.S.Over.Field.model in
     let inv = c.loop-at.invariant in
     let x = c.loop-at.session in
-    let x' = c.handle-line-used.new.session in
+    let x' = c.handle_line-used.new.session in
     let T = g.S.Server.table c.args.session.now.server in
     let tables : g.S.Server.table x.server ≡ T = ap g.S.Server.table inv.0 in
     let at = c.loop-at.at in
@@ -43,18 +43,18 @@ loop-at-preserved g c =
     let answers = c.loop-at.answers in
     let log = c.loop-at.log in
     let done = c.loop-at.done in
-    let used = c.handle-line-used.result in
-    let within = c.handle-line-used.ensures.within in
+    let used = c.handle_line-used.result in
+    let within = c.handle_line-used.ensures.within in
     let handled =
-    subst (λ (l : List ℕ). LineDone M l x (done.lines + 1) (take (end - at) (drop at text)) (take (length answers - done.answers) (drop done.answers answers)) (take (length log - done.log) (drop done.log log)) x' c.handle-line-used.new.answers c.handle-line-used.new.log used) tables
-    c.handle-line-used.ensures.done in (
-      c.handle-line-used.ensures.server ∙ inv.0,
-      subst (λ (l : List ℕ). Sound M (length l) x') tables c.handle-line-used.ensures.sound,
+    subst (λ (l : List ℕ). LineDone M l x (done.lines + 1) (take (end - at) (drop at text)) (take (length answers - done.answers) (drop done.answers answers)) (take (length log - done.log) (drop done.log log)) x' c.handle_line-used.new.answers c.handle_line-used.new.log used) tables
+    c.handle_line-used.ensures.done in (
+      c.handle_line-used.ensures.server ∙ inv.0,
+      subst (λ (l : List ℕ). Sound M (length l) x') tables c.handle_line-used.ensures.sound,
       omega (arith, found.3),
       omega (arith, inv.3, found.2),
       refl,
-      part_back answers done.answers _ used.answers inv.5 c.handle-line-used.ensures.lengths.0 within.0,
-      part_back log done.log _ used.log inv.6 c.handle-line-used.ensures.lengths.1 within.1,
+      part_back answers done.answers _ used.answers inv.5 c.handle_line-used.ensures.lengths.0 within.0,
+      part_back log done.log _ used.log inv.6 c.handle_line-used.ensures.lengths.1 within.1,
       λ s h H.
           let p = inv.7 s h H in
           let q = handled s p.after p.holds in

@@ -13,7 +13,7 @@ use Rattle.replay_text.proofs.replays.replay.Goals as goal
 
 pub returns-then-text-gt-LONGEST : goal.returns-then-text-gt-LONGEST
 returns-then-text-gt-LONGEST g c =
-    rw c.not-begun.ensures
+    rw c.not_begun.ensures
     (record {
       sound = c.requires.sound;
       server = refl;
@@ -31,15 +31,15 @@ returns-in-Ok g c =
     let log = c.args.log.now in
     let at = c.in-Ok.ensures in
     let wide = header_room c.count.result (length log) (subst Count (sym c.count.ensures.members) (table.some, table.few)) at.0 in
-    let written : c.write-header.new.out ≡ onto (header_bytes M (length T)) log =
-    subst (λ (n : ℕ). c.write-header.new.out ≡ onto (header_bytes M n) log) c.count.ensures.members at.1.buffer in
+    let written : c.write_header.new.out ≡ onto (header_bytes M (length T)) log =
+    subst (λ (n : ℕ). c.write_header.new.out ≡ onto (header_bytes M n) log) c.count.ensures.members at.1.buffer in
     record {
-      sound = c.handle-lines.ensures.sound;
-      server = c.handle-lines.ensures.server;
+      sound = c.handle_lines.ensures.sound;
+      server = c.handle_lines.ensures.server;
       law =
           λ s h H.
-          let p = c.handle-lines.ensures.law s h H in
-          (p.0, header_before M (length T) log c.write-header.new.out written wide (value_at T) s h c.args.text.now c.args.answers.now (omega (arith, c.if-text-gt-LONGEST.false)) _ _ _ _ p.1, p.2);
+          let p = c.handle_lines.ensures.law s h H in
+          (p.0, header_before M (length T) log c.write_header.new.out written wide (value_at T) s h c.args.text.now c.args.answers.now (omega (arith, c.if-text-gt-LONGEST.false)) _ _ _ _ p.1, p.2);
       exact = judging_is_exact_lem;
       possible = every_value_stays_possible_lem;
       unseen = values_are_not_seen_lem;
@@ -50,7 +50,7 @@ returns-in-Err g c =
     let table = c.count.ensures.lawful in
     let at = c.in-Err.ensures in
     let full = header_refused c.count.result (length c.args.log.now) (subst Count (sym c.count.ensures.members) (table.some, table.few)) c.in-Err.refusal at.0 in
-    rw (c.not-begun-in-Err.ensures, full.0, at.1)
+    rw (c.not_begun-in-Err.ensures, full.0, at.1)
     (record {
       sound = c.requires.sound;
       server = refl;
