@@ -10,12 +10,12 @@ use Rattle.survey_job.specs.Jobs.{Printed, Replays, refused, replayed}
 use Rattle.survey_job.proofs.FileFaults.{small_detail}
 use Rattle.survey_job.proofs.jobs.run_job.Goals as goal
 
-pub refusal-line-requires : goal.refusal-line-requires
-refusal-line-requires g c = small_detail g.F.Field.model c.args.table.now (Some c.in-Err.refusal) c.in-Err.ensures
+pub refusal_line-requires : goal.refusal_line-requires
+refusal_line-requires g c = small_detail g.F.Field.model c.args.table.now (Some c.in-Err.refusal) c.in-Err.ensures
 
 pub returns-in-err-refusal-line : goal.returns-in-err-refusal-line
 returns-in-err-refusal-line g c =
-    let p = err_from_is_err_and c.from-residual.result c.from-residual.ensures.1 in
+    let p = err_from_is_err_and c.from_residual.result c.from_residual.ensures.1 in
     rw p.1
     (record { printed = tt; exact = judging_is_exact_lem; possible = every_value_stays_possible_lem; unseen = values_are_not_seen_lem })
 
@@ -25,11 +25,11 @@ returns-in-Ok g c =
     let file = c.in-Ok.ensures in
     record {
       printed =
-          IfOk-weaker c.replay-new.result _ _
+          IfOk-weaker c.replay_new.result _ _
           (λ j done.
           replayed file.0 (vec_items j.printed) (vec_items j.log)
           (subst (λ (T : List ℕ). Replays M T c.args.text.now (vec_items j.printed) (vec_items j.log)) file.1 done))
-          c.replay-new.ensures;
+          c.replay_new.ensures;
       exact = judging_is_exact_lem;
       possible = every_value_stays_possible_lem;
       unseen = values_are_not_seen_lem;

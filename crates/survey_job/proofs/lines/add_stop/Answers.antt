@@ -11,10 +11,10 @@ unreachable-requires c =
     let x = c.in-Some.found in
     let fits : x.line < 2 ^ 64 = omega arith in
     let few = small_number x.refusal in
-    omega (arith, pair_fits 33 (number x.refusal) x.line (omega arith) fits, c.in-default-write-stop.ensures)
+    omega (arith, pair_fits 33 (number x.refusal) x.line (omega arith) fits, c.in_default-write_stop.ensures)
 
 pub returns : goal.returns
 returns c =
-    let line = written _ _ _ c.in-Some-write-stop.length c.in-Some-write-stop.ensures.1 in
-    added c.extend-from-slice.result (vec_items c.args.printed.now) _ (stop_text c.args.stop) _ c.extend-from-slice.ensures.items
+    let line = written _ _ _ c.in-Some-write_stop.length c.in-Some-write_stop.ensures.1 in
+    added c.extend_from_slice.result (vec_items c.args.printed.now) _ (stop_text c.args.stop) _ c.extend_from_slice.ensures.items
     (line ∙ sym (ap stop_text c.in-Some.is))

@@ -9,9 +9,9 @@ pub unreachable-requires : goal.unreachable-requires
 unreachable-requires c =
     let e = c.args.refusal in
     let few = small_number e in
-    omega (arith, pair_fits 45 (number e) (detail e) (omega arith) (omega (arith, c.requires)), c.in-default.ensures)
+    omega (arith, pair_fits 45 (number e) (detail e) (omega arith) (omega (arith, c.requires)), c.in_default.ensures)
 
 pub returns : goal.returns
 returns c =
-    made_of c.from-slice.result _ _ c.from-slice.ensures.made
+    made_of c.from_slice.result _ _ c.from_slice.ensures.made
     (written _ _ _ c.in-Some.length c.in-Some.ensures.1)

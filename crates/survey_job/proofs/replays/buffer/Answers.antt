@@ -5,4 +5,4 @@ use Rattle.survey_job.proofs.replays.buffer.Goals as goal
 
 pub returns : goal.returns
 unfolding zeros
-returns c = IfOk-weaker c.from-elem.result _ _ (λ v h. h (λ y e. e)) c.from-elem.ensures.items-if-clones-equal
+returns c = IfOk-weaker c.from_elem.result _ _ (λ v h. h (λ y e. e)) c.from_elem.ensures.items_if_clones_equal

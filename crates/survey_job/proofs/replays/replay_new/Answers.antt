@@ -1,6 +1,6 @@
 -- Answers for `replay_new`: the new session stands for the empty history, and the replay goes on from there.
 use Rattle.std.proofs.Common.{◌≡◌, List, [], ◌++◌, length, take, vec_items, sym, ap, ◌∙◌, subst, arith}
-use Rattle.history.specs.Events.{new_session}
+use Rattle.history.specs.Events.{new-session}
 use Rattle.session.specs.Views.{Sound, Holds}
 use Rattle.survey_job.specs.Jobs.{stop_text, Replays}
 use Rattle.survey_job.proofs.Buffers.{lent_back}
@@ -11,23 +11,23 @@ pub replay-done-requires : goal.replay-done-requires
 replay-done-requires g c =
     record {
       sound =
-          subst (λ (s : _). Sound g.S.Over.Field.model (length (g.S.Server.table s)) c.new_session.result) (sym c.new_session.ensures.server)
-          c.new_session.ensures.sound;
+          subst (λ (s : _). Sound g.S.Over.Field.model (length (g.S.Server.table s)) c.new-session.result) (sym c.new-session.ensures.server)
+          c.new-session.ensures.sound;
     }
 
 pub returns : goal.returns
 returns g c =
     let M = g.S.Over.Field.model in
-    let x = c.new_session.result in
+    let x = c.new-session.result in
     let r = c.replay-done.result in
     let holds =
-    subst (λ (s : _). Holds M (g.S.Server.table s) x new_session []) (sym c.new_session.ensures.server) c.new_session.ensures.holds in
-    let law = c.replay-done.ensures.law new_session [] holds in
-    let answers = c.as-mut-slice.ensures in
-    let log = c.as-mut-slice-2.ensures in
-    subst (λ (s : _). Replays M (g.S.Server.table s) c.args.text.now (vec_items c.add-stop.new.printed) (vec_items c.truncate-2.new.self)) c.new_session.ensures.server
+    subst (λ (s : _). Holds M (g.S.Server.table s) x new-session []) (sym c.new-session.ensures.server) c.new-session.ensures.holds in
+    let law = c.replay-done.ensures.law new-session [] holds in
+    let answers = c.as_mut_slice.ensures in
+    let log = c.as_mut_slice-2.ensures in
+    subst (λ (s : _). Replays M (g.S.Server.table s) c.args.text.now (vec_items c.add_stop.new.printed) (vec_items c.truncate-2.new.self)) c.new-session.ensures.server
     (assembled M (g.S.Server.table x.server) c.args.text.now _ _ c.replay-done.new.answers c.replay-done.new.log _ _ r law.0
-    (answers.value ∙ c.in-ok-printed.ensures) (log.value ∙ c.in-ok-log.ensures) law.1 law.2.lawful
-    (c.in-ok-add-stop.ensures
+    (answers.value ∙ c.in_ok-printed.ensures) (log.value ∙ c.in_ok-log.ensures) law.1 law.2.lawful
+    (c.in_ok-add_stop.ensures
     ∙ ap (λ us. us ++ stop_text r.stop) (c.truncate.ensures.items ∙ ap (take r.answers) (lent_back _ _ c.replay-done.new.answers (omega arith))))
     (c.truncate-2.ensures.items ∙ ap (take r.log) (lent_back _ _ c.replay-done.new.log (omega arith))))
