@@ -1,5 +1,5 @@
 -- Vectors and lines that were written in a buffer. Assumes nothing.
-use Rattle.std.proofs.Common.{◌≡◌, ℕ, ◌-◌, cond, List, ◌++◌, length, take, drop, is_ok, IfOk, Ok, Err, vec_items, vec_len, Result, Vec, ap, ◌∙◌, arith}
+use Rattle.std.proofs.Common.{◌≡◌, ℕ, ◌-◌, cond, List, ◌++◌, length, take, drop, is_ok, IfOk, Ok, Err, vec_items, Result, Vec, ap, ◌∙◌, arith}
 use Rattle.std.specs.declared.alloc.AllocError.{AllocError}
 use Rattle.std.specs.declared.alloc.Global.{Global}
 use Rattle.std.proofs.lemmas.List.{take_at}
@@ -14,8 +14,8 @@ pub written : (bytes before after : List ℕ) (k : ℕ) → Put bytes before aft
 written bytes before after k put =
     ap (take (k - 0)) put.buffer ∙ take_at bytes (drop (length bytes) before) (k - 0) (omega (arith, put.count))
 
-pub made_of : (r : Result (Vec ℕ Global) AllocError) (xs ys : List ℕ) → IfOk r (λ v. (vec_items v ≡ xs) × (vec_len v ≡ length xs)) → xs ≡ ys → IfOk r (λ v. vec_items v ≡ ys)
-made_of (Ok v) xs ys m e = m.0 ∙ e
+pub made_of : (r : Result (Vec ℕ Global) AllocError) (xs ys : List ℕ) → IfOk r (λ v. vec_items v ≡ xs) → xs ≡ ys → IfOk r (λ v. vec_items v ≡ ys)
+made_of (Ok v) xs ys m e = m ∙ e
 made_of (Err x) xs ys m e = tt
 
 pub added :

@@ -13,8 +13,8 @@ use Rattle.survey_job.proofs.jobs.run_job.Goals as goal
 pub refusal_line-requires : goal.refusal_line-requires
 refusal_line-requires g c = small_detail g.F.Field.model c.args.table.now (Some c.in-Err.refusal) c.in-Err.ensures
 
-pub returns-in-err-refusal-line : goal.returns-in-err-refusal-line
-returns-in-err-refusal-line g c =
+pub returns-in_err-refusal_line-in-Err : goal.returns-in_err-refusal_line-in-Err
+returns-in_err-refusal_line-in-Err g c =
     let p = err_from_is_err_and c.from_residual.result c.from_residual.ensures.1 in
     rw p.1
     (record { printed = tt; exact = judging_is_exact_lem; possible = every_value_stays_possible_lem; unseen = values_are_not_seen_lem })
@@ -35,13 +35,13 @@ returns-in-Ok g c =
       unseen = values_are_not_seen_lem;
     }
 
-pub returns-in-ok-refusal-line : goal.returns-in-ok-refusal-line
-returns-in-ok-refusal-line g c =
+pub returns-in_ok-refusal_line-in-Err : goal.returns-in_ok-refusal_line-in-Err
+returns-in_ok-refusal_line-in-Err g c =
     let M = g.F.Field.model in
     let e = c.in-Err.refusal in
     record {
       printed =
-          subst (λ (out : List ℕ). Printed M c.args.table.now c.args.text.now out (vec_items c.new.result)) (sym c.in-ok-refusal-line.ensures)
+          subst (λ (out : List ℕ). Printed M c.args.table.now c.args.text.now out (vec_items c.new.result)) (sym c.in_ok-refusal_line-in-Err.ensures)
           (subst (λ (log : List ℕ). Printed M c.args.table.now c.args.text.now (refusal_line_lem (number e) (detail e)) log) (sym c.new.ensures.items)
           (refused e c.in-Err.ensures));
       exact = judging_is_exact_lem;

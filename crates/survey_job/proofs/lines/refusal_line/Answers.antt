@@ -13,5 +13,5 @@ unreachable-requires c =
 
 pub returns : goal.returns
 returns c =
-    made_of c.from_slice.result _ _ c.from_slice.ensures.made
+    made_of c.from_slice.result _ _ c.from_slice.ensures.items
     (written _ _ _ c.in-Some.length c.in-Some.ensures.1)

@@ -1,6 +1,6 @@
 -- Answers for `replay_new`: the new session stands for the empty history, and the replay goes on from there.
 use Rattle.std.proofs.Common.{◌≡◌, List, [], ◌++◌, length, take, vec_items, sym, ap, ◌∙◌, subst, arith}
-use Rattle.history.specs.Events.{new-session}
+use Rattle.history.specs.Events.{new_session}
 use Rattle.session.specs.Views.{Sound, Holds}
 use Rattle.survey_job.specs.Jobs.{stop_text, Replays}
 use Rattle.survey_job.proofs.Buffers.{lent_back}
@@ -21,8 +21,8 @@ returns g c =
     let x = c.new-session.result in
     let r = c.replay-done.result in
     let holds =
-    subst (λ (s : _). Holds M (g.S.Server.table s) x new-session []) (sym c.new-session.ensures.server) c.new-session.ensures.holds in
-    let law = c.replay-done.ensures.law new-session [] holds in
+    subst (λ (s : _). Holds M (g.S.Server.table s) x new_session []) (sym c.new-session.ensures.server) c.new-session.ensures.holds in
+    let law = c.replay-done.ensures.law new_session [] holds in
     let answers = c.as_mut_slice.ensures in
     let log = c.as_mut_slice-2.ensures in
     subst (λ (s : _). Replays M (g.S.Server.table s) c.args.text.now (vec_items c.add_stop.new.printed) (vec_items c.truncate-2.new.self)) c.new-session.ensures.server
