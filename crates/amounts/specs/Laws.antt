@@ -1,7 +1,7 @@
 -- Amounts are a field. Assumes nothing.
 use Rattle.std.specs.Prelude.{◌≡◌, ℕ, zero, suc, ◌+◌, ◌-◌, ◌*◌, ◌/◌, ◌%◌, ◌<◌, ◌≤◌, ◌≢◌, refl}
 use Rattle.std.proofs.Common.{sym, ap, subst, ◌∙◌, add_comm, add_assoc, mul_comm, mul_assoc, mul-add, one-mul, mul-one, mod-eq_of_lt, mod-lt, lt_trans, arith}
-use Rattle.std.proofs.Math.Nat.{mod_self, mod-add-mod, add-mod-mod, add-mod}
+use Rattle.std.proofs.Math.Nat.{mod-add-mod, add-mod-mod, add-mod}
 use Rattle.std.proofs.Math.Decide.{ℕ_discrete}
 use Rattle.field.specs.Model.{FieldLaws}
 use Rattle.amounts.specs.Prime.{amounts, first_inverse}

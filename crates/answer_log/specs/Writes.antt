@@ -1,8 +1,10 @@
 -- What the writers of a log answer, in the order of the checks.
 --   HeaderWrite n room r        r is the answer for the header of n members, where `room` bytes are left
 --   RowWrite M n ws f room r    the same for the row of the weights ws with the figure f
+--   onto, Put, Front            bytes at the front of a buffer, as the crate buffer has them
 -- Assumes nothing.
 use Rattle.std.specs.Prelude.{ℕ, ◌<◌, ◌≤◌, List, length, Some, None, Option}
+pub use Rattle.buffer.specs.Buffers.{onto, Put, Front}
 use Rattle.refusal.specs.declared.Refusal.{Refusal}
 use Rattle.refusal.specs.declared.Refusal.TheVariants.{WrongCount, NotAnElement, LogFull}
 use Rattle.refusal.specs.declared.Site.TheVariants.{Nothing}

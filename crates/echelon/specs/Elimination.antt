@@ -7,7 +7,7 @@
 -- Assumes nothing.
 use Rattle.std.specs.Prelude.{List, [], ◌∷◌, ◌++◌, map, ℕ, take, drop}
 use Rattle.field.specs.Model.{FieldModel}
-use Rattle.echelon.specs.Rows.{Vector, minus, Figured}
+use Rattle.echelon.specs.Rows.{minus, Figured}
 use Rattle.echelon.specs.Reduced.{Pivoted, figured}
 
 abbrev pub cleared : FieldModel → Pivoted → Figured → Figured

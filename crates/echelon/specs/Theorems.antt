@@ -1,6 +1,6 @@
 -- What holds of records, rows and tables, over every field and every count.
 -- Assumes nothing.
-use Rattle.std.specs.Prelude.{◌≡◌, ◌≢◌, List, [], ◌∷◌, ℕ, ◌≤◌, ◌<◌, length}
+use Rattle.std.specs.Prelude.{◌≡◌, ◌≢◌, List, ◌∷◌, ℕ, ◌≤◌, ◌<◌, length}
 use Rattle.field.specs.Model.{FieldModel, FieldLaws}
 use Rattle.echelon.specs.Rows.{Vector, Codes, minus, sum, Figured, rows_of, RowsCodes, Agree, Fits, Pins, Fixes}
 use Rattle.echelon.specs.Reduced.{Pivoted, at, Reduced, Alone, all_figured, ReducedForm, Same}

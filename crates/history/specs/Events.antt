@@ -7,7 +7,7 @@
 --   given s h              those, and the rows given before
 -- Histories, and lists of rows, have the newest first.
 -- Assumes nothing.
-use Rattle.std.specs.Prelude.{ℕ, ◌+◌, true, false, eqb, List, [], ◌∷◌, ◌++◌, Some, None, Option}
+use Rattle.std.specs.Prelude.{ℕ, ◌+◌, List, [], ◌∷◌, ◌++◌, Some, None, Option}
 use Rattle.refusal.specs.declared.Refusal.{Refusal}
 use Rattle.refusal.specs.Numbered.{number, detail}
 use Rattle.field.specs.Sums.{weights_of}

@@ -1,13 +1,13 @@
 -- What is promised of every lawful history, over every field, count, table and list of calls.
 -- Assumes nothing.
-use Rattle.std.specs.Prelude.{◌≡◌, ℕ, ◌<◌, ◌≤◌, ◌≢◌, List, [], ◌∷◌, map, Some, None}
+use Rattle.std.specs.Prelude.{◌≡◌, ℕ, ◌<◌, ◌≤◌, List, [], ◌∷◌, map, None}
 use Rattle.field.specs.Model.{FieldModel, FieldLaws}
-use Rattle.field.specs.Sums.{Vector, Codes, sum, weights_of}
+use Rattle.field.specs.Sums.{Vector, Codes}
 use Rattle.field.specs.declared.Element.{Element}
 use Rattle.server.specs.Tables.{value_at}
 use Rattle.echelon.specs.Rows.{Figured, rows_of, RowsCodes, Agree, Fits, Pins}
 use Rattle.record.specs.Checks.{RowCheck}
-use Rattle.history.specs.Events.{Call, Reply, Event, Start, new_session, submits, witnesses, permits, gives, takes_back, fills, refuses, answered, given}
+use Rattle.history.specs.Events.{Call, Reply, Event, Start, submits, witnesses, permits, gives, takes_back, fills, refuses, answered, given}
 use Rattle.history.specs.Law.{PinnedBy, Ready, Due, Lawful}
 
 abbrev pub FiguresCodes : FieldModel → List Figured → Type 0

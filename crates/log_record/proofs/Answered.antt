@@ -1,5 +1,5 @@
 -- What a new session answered is in order. Assumes nothing.
-use Rattle.std.proofs.Common.{◌≡◌, ℕ, ◌<◌, List, [], ◌∷◌, ◌++◌, Some, None, Option, sym, refl, ap, subst, arith}
+use Rattle.std.proofs.Common.{ℕ, ◌<◌, List, [], ◌∷◌, ◌++◌, None, Option, sym, refl, subst, arith}
 use Rattle.std.proofs.lemmas.List.{append-nil}
 use Rattle.field.specs.Model.{FieldModel, FieldLaws}
 use Rattle.field.specs.Sums.{Vector, Codes, sum, weights_of}
@@ -11,7 +11,7 @@ use Rattle.record.specs.Judged.{given_row}
 use Rattle.record.proofs.Weights.{past_end}
 use Rattle.history.specs.Events.{Call, Reply, Event, OpenRow, new_session, with_figure, newly_answered, issued, open_row, answered, given}
 use Rattle.history.specs.Law.{PinnedBy, Due, permit_open, permits_spent, bad_row, discloses, granted, answer_refused, answered_with, withdrawal_refused, withdrawn, witness_refused, witness_filled, Lawful}
-use Rattle.history.proofs.Facts.{OpenFacts, After, before, last_due, after, table_fits, figure_code, new_sane}
+use Rattle.history.proofs.Facts.{After, before, last_due, after, table_fits, figure_code, new_sane}
 use Rattle.log_record.specs.Theorems.{RowFine, InOrder, AnsweredIsAccepted}
 use Rattle.log_record.proofs.Written.{written_is_accepted_lem}
 

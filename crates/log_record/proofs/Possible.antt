@@ -1,5 +1,5 @@
 -- Every value stays possible after a log. Assumes nothing.
-use Rattle.std.proofs.Common.{◌≡◌, ℕ, ◌+◌, ◌<◌, List, [], ◌∷◌, ◌++◌, drop, None, sym, refl, ◌∙◌}
+use Rattle.std.proofs.Common.{◌≡◌, ℕ, ◌+◌, ◌<◌, List, [], ◌∷◌, ◌++◌, drop, None, refl, ◌∙◌}
 use native.Mathlib.Decide.{ℕ_discrete}
 use Rattle.refusal.specs.declared.LogRow.{LogRow}
 use Rattle.field.specs.Model.{FieldModel, FieldLaws}

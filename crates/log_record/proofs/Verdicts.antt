@@ -6,9 +6,9 @@ use Rattle.refusal.specs.declared.Site.TheVariants.{OfRow}
 use Rattle.refusal.specs.declared.LogRow.{LogRow}
 use Rattle.refusal.specs.declared.Member.{Member}
 use Rattle.field.specs.Model.{FieldModel, FieldLaws}
-use Rattle.field.specs.Sums.{Codes, weights_of}
+use Rattle.field.specs.Sums.{weights_of}
 use Rattle.field.specs.declared.Element.{Element}
-use Rattle.echelon.specs.Rows.{Figured, rows_of, Fixes}
+use Rattle.echelon.specs.Rows.{Figured, Fixes}
 use Rattle.echelon.specs.Reduced.{Pivoted, ReducedForm}
 use Rattle.echelon.specs.Witness.{base}
 use Rattle.echelon.proofs.Tables.{base-fits}

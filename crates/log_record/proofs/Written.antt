@@ -1,17 +1,17 @@
 -- An accepted log is what its rows write, and rows in order are read back. Assumes nothing.
-use Rattle.std.proofs.Common.{◌≡◌, ℕ, ◌+◌, ◌<◌, ◌≤◌, List, [], ◌∷◌, ◌++◌, length, get_or, take, drop, None, Option, sym, refl, ap, ◌∙◌, subst, ap₂, add-one, arith}
+use Rattle.std.proofs.Common.{◌≡◌, ℕ, ◌+◌, List, [], ◌∷◌, ◌++◌, length, take, drop, None, Option, sym, refl, ap, ◌∙◌, subst, ap₂, add-one, arith}
 use Rattle.std.proofs.lemmas.List.{append-nil, append_assoc, take-append-drop, length-append, drop-append-le, drop_all, get_or-drop}
 use Rattle.refusal.specs.declared.Refusal.{Refusal}
 use Rattle.field.specs.Model.{FieldModel}
 use Rattle.server.specs.Checks.{Count}
 use Rattle.echelon.specs.Rows.{Figured}
-use Rattle.answer_log.specs.Rows.{header_bytes, row_bytes}
-use Rattle.answer_log.specs.Entries.{HeaderCheck, accepted}
+use Rattle.answer_log.specs.Rows.{row_bytes}
+use Rattle.answer_log.specs.Entries.{accepted}
 use Rattle.answer_log.proofs.Logs.{header-same}
 use Rattle.answer_log.proofs.Again.{again}
 use Rattle.answer_log.proofs.Back.{reads_back}
 use Rattle.answer_log.proofs.Readers.{row_within}
-use Rattle.log_record.specs.Joins.{rows_bytes, log_bytes, row_with, joins, RowsJoin, no_more, next_row, LogRecord, rows}
+use Rattle.log_record.specs.Joins.{rows_bytes, row_with, joins, RowsJoin, no_more, next_row, rows}
 use Rattle.log_record.specs.Theorems.{Bytes, InOrder, AcceptedIsWritten, WrittenIsAccepted}
 
 no_bytes : (bs : List ℕ) → length bs ≡ 0 → bs ≡ []

@@ -11,7 +11,6 @@ use Rattle.query.specs.declared.faults.LineFault.{LineFault}
 use Rattle.query.specs.declared.faults.LineFault.TheVariants.{TooLong, NoKind, NotEnded}
 use Rattle.query.specs.declared.numbers.Numeral.{Numeral}
 use Rattle.query.specs.declared.items.Limits.{Limits}
-use Rattle.query.specs.declared.items.Item.{Item}
 use Rattle.query.specs.declared.items.Weights.{Weights}
 use Rattle.query.specs.declared.lines.Request.{Request}
 use Rattle.query.specs.declared.lines.Request.TheVariants.{Ask, Try, Witness, Remark}

@@ -4,7 +4,7 @@
 --   Spells lim line q         the line is the text of the request q
 --   Accepted lim line q       and is short enough
 -- Numbers are in decimal, with no zero in front. Assumes nothing.
-use Rattle.std.specs.Prelude.{◌≡◌, ℕ, ◌<◌, ◌≤◌, ◌≢◌, List, [], ◌∷◌, ◌++◌, length, Some, decimal, slice_set}
+use Rattle.std.specs.Prelude.{ℕ, ◌<◌, ◌≤◌, ◌≢◌, List, [], ◌∷◌, ◌++◌, length, Some, decimal, slice_set}
 use Rattle.std.specs.List.{flat_map, AllByRecursion as All}
 use Rattle.field.specs.declared.Element.{Element}
 use Rattle.query.specs.declared.items.Limits.{Limits}

@@ -1,10 +1,10 @@
 -- A row joins the record: what `join` asks, and what stands after it. Assumes nothing.
-use Rattle.std.proofs.Common.{◌≡◌, ℕ, ◌<◌, ◌≤◌, ◌≢◌, List, ◌∷◌, length, sym, refl, ap, ◌∙◌, subst, arith}
+use Rattle.std.proofs.Common.{◌≡◌, ℕ, ◌<◌, ◌≤◌, List, length, sym, refl, ◌∙◌, arith}
 use Rattle.field.specs.Model.{FieldModel, FieldLaws}
-use Rattle.field.specs.Sums.{Vector, Codes, weights_of}
+use Rattle.field.specs.Sums.{Vector}
 use Rattle.field.specs.declared.Element.{Element}
-use Rattle.echelon.specs.Rows.{Figured, rows_of, RowsCodes, Agree, Fits, Fixes}
-use Rattle.echelon.specs.Reduced.{Pivoted, at, figured, all_figured, Reduced, ReducedForm, Same}
+use Rattle.echelon.specs.Rows.{Figured, Agree, Fixes}
+use Rattle.echelon.specs.Reduced.{Pivoted, at, figured, Reduced, Same}
 use Rattle.echelon.specs.Elimination.{joined}
 use Rattle.echelon.proofs.Codes.{sum_cong}
 use Rattle.echelon.proofs.Indexed.{agree_at, at_agree}
@@ -13,7 +13,7 @@ use Rattle.echelon.proofs.Unique.{same-fits, same_sym, same-reduced}
 use Rattle.echelon.proofs.Forms.{form-kept, form_grown_lem}
 use Rattle.record.specs.Rows.{pivoted, CodedRow}
 use Rattle.record.specs.Shapes.{NoneAlone}
-use Rattle.record.specs.Judged.{record_rows, given_row, PinnedWith, Adds, FitsBoth, SamePivoted}
+use Rattle.record.specs.Judged.{record_rows, PinnedWith, Adds, FitsBoth, SamePivoted}
 use Rattle.record.specs.Standings.{Stands, Left, fresh_row}
 use Rattle.record.specs.Standings as standings
 use Rattle.record.specs.declared.judge.Standing.TheVariants as Standing

@@ -1,17 +1,16 @@
 -- What a row does to the record, from what is left over of it. Assumes nothing.
-use Rattle.std.proofs.Common.{◌≡◌, ℕ, zero, suc, ◌<◌, ◌≤◌, ◌≢◌, ◌⊎◌, List, ◌∷◌, length, sym, refl, ap, ◌∙◌, subst, ap₂, inl, inr, arith}
+use Rattle.std.proofs.Common.{◌≡◌, ℕ, zero, suc, ◌<◌, ◌≤◌, ◌≢◌, List, ◌∷◌, length, sym, refl, ap, ◌∙◌, subst, inl, inr, arith}
 use native.Mathlib.Decide.{ℕ_discrete, dec_lt}
 use Rattle.field.specs.Model.{FieldModel, FieldLaws}
 use Rattle.field.specs.Sums.{Vector, Codes, minus, sum}
-use Rattle.server.specs.Checks.{Lowest}
-use Rattle.echelon.specs.Rows.{Figured, rows_of, Agree, Fits, Pins, Fixes}
-use Rattle.echelon.specs.Reduced.{Pivoted, at, figured, all_figured, Alone, Reduced}
+use Rattle.echelon.specs.Rows.{Figured, Agree, Fits, Fixes}
+use Rattle.echelon.specs.Reduced.{Pivoted, at, all_figured, Alone, Reduced}
 use Rattle.echelon.specs.Elimination.{leftover, scaled, with_pivot, pivot_cleared, joined}
 use Rattle.field.proofs.Zero.{zero-code, zero_right}
 use Rattle.echelon.proofs.Codes.{sum_none, sum_below}
 use Rattle.echelon.proofs.Tables.{pinned_alone_lem}
 use Rattle.echelon.proofs.Leftover.{leftover-fits, fixed-leaves_nothing}
-use Rattle.echelon.proofs.Joined.{put, put-length, spot, Spot, new, old, kept_spot, put_here, joined-form, fresh-codes, fresh-own, fresh-pivot}
+use Rattle.echelon.proofs.Joined.{put-length, spot, Spot, new, old, kept_spot, put_here, joined-form, fresh-own, fresh-pivot}
 use Rattle.record.specs.Rows.{CodedRow}
 use Rattle.record.specs.Judged.{record_rows, PinnedWith, AloneWith, FixedFigure}
 

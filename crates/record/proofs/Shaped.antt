@@ -1,7 +1,7 @@
 -- What the type of a record asks, from reduced echelon form. Assumes nothing.
-use Rattle.std.proofs.Common.{◌≡◌, ℕ, zero, suc, ◌+◌, ◌<◌, ◌≤◌, List, length, sym, ap, ◌∙◌, subst, arith}
+use Rattle.std.proofs.Common.{◌≡◌, ℕ, zero, suc, ◌<◌, ◌≤◌, List, length, sym, ap, ◌∙◌, arith}
 use Rattle.field.specs.Model.{FieldModel}
-use Rattle.echelon.specs.Reduced.{Pivoted, at, Alone, Reduced, Same}
+use Rattle.echelon.specs.Reduced.{Pivoted, at, Reduced, Same}
 use Rattle.record.specs.Shapes.{NoneAlone}
 
 -- pivots that rise below n are at most n

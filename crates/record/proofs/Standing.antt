@@ -1,11 +1,11 @@
 -- What is left over of a row, in memory and in the theory. Assumes nothing.
-use Rattle.std.proofs.Common.{◌≡◌, ℕ, ◌<◌, ◌≢◌, List, length, sym, refl, ap, ◌∙◌, subst, ap₂, inl, inr, arith}
+use Rattle.std.proofs.Common.{◌≡◌, ℕ, ◌<◌, ◌≢◌, List, length, sym, refl, ◌∙◌, subst, ap₂, inl, inr, arith}
 use Rattle.field.specs.Model.{FieldModel, FieldLaws}
 use Rattle.field.specs.Sums.{Vector}
 use Rattle.server.specs.Checks.{Lowest}
 use Rattle.echelon.specs.Rows.{Figured}
 use Rattle.echelon.specs.Reduced.{Pivoted, at, figured, Alone, Reduced}
-use Rattle.echelon.specs.Elimination.{leftover, scaled, pivot_cleared}
+use Rattle.echelon.specs.Elimination.{leftover, scaled}
 use Rattle.record.specs.Rows.{pivoted, SameRow, CodedRow}
 use Rattle.record.specs.Judged.{PinnedWith, AloneWith, SamePivoted}
 use Rattle.record.specs.Standings.{Left, fresh_row}

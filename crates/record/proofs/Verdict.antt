@@ -1,13 +1,11 @@
 -- What the record answers about a row, from what is left over of it. Assumes nothing.
-use Rattle.std.proofs.Common.{◌≡◌, ℕ, ◌<◌, ◌≤◌, List, ◌∷◌, length, None, sym, refl, ap, ◌∙◌, subst}
+use Rattle.std.proofs.Common.{◌≡◌, ℕ, ◌<◌, List, length, None, sym, ap, ◌∙◌}
 use Rattle.field.specs.Model.{FieldModel, FieldLaws}
-use Rattle.field.specs.Sums.{Vector, Codes, weights_of}
+use Rattle.field.specs.Sums.{Codes, weights_of}
 use Rattle.field.specs.declared.Element.{Element}
 use Rattle.field.proofs.Zero.{zero-code}
 use Rattle.refusal.specs.declared.Member.{Member}
-use Rattle.echelon.specs.Rows.{Figured}
 use Rattle.echelon.specs.Reduced.{Pivoted, Reduced}
-use Rattle.echelon.specs.Elimination.{leftover}
 use Rattle.record.specs.Checks.{RowCheck, accepted}
 use Rattle.record.specs.Judged.{Judged, given_row}
 use Rattle.record.specs.Judged as judged

@@ -1,11 +1,10 @@
 -- The witness in memory: the free member and factor that it leads by, and the table that it fills in. Assumes nothing.
-use Rattle.std.proofs.Common.{◌≡◌, ℕ, ◌<◌, ◌≤◌, ◌≢◌, ◌⊎◌, List, length, sym, refl, ap, ◌∙◌, subst, ap₂, inl, inr, ⊎_elim, arith}
-use native.Mathlib.Decide.{ℕ_discrete}
+use Rattle.std.proofs.Common.{◌≡◌, ℕ, ◌<◌, ◌≢◌, List, length, sym, ap, ◌∙◌, subst, ap₂, ⊎_elim, arith}
 use Rattle.field.specs.Model.{FieldModel, FieldLaws}
 use Rattle.field.specs.Sums.{Vector, minus}
-use Rattle.field.proofs.Zero.{zero-code, zero_right, times_zero}
+use Rattle.field.proofs.Zero.{zero-code, times_zero}
 use Rattle.echelon.specs.Reduced.{Pivoted, at, Reduced}
-use Rattle.echelon.specs.Witness.{Free, base, direction, LowestFree, Leads, from_free, from_pivot}
+use Rattle.echelon.specs.Witness.{Free, base, direction, LowestFree, Leads, from_pivot}
 use Rattle.echelon.proofs.Indexed.{pivot_or_free, base-free, base-pivot, direction_self, direction_other, direction-pivot}
 use Rattle.echelon.proofs.Tables.{distinct, beside}
 

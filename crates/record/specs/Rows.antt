@@ -7,7 +7,7 @@ use Rattle.std.specs.Prelude.{◌≡◌, ℕ, ◌<◌}
 use Rattle.field.specs.Model.{FieldModel}
 use Rattle.field.specs.Sums.{Codes, weights_of}
 use Rattle.echelon.specs.Rows.{Figured}
-use Rattle.echelon.specs.Reduced.{Pivoted, figured}
+use Rattle.echelon.specs.Reduced.{Pivoted}
 use Rattle.record.specs.declared.rows.FiguredRow.{FiguredRow}
 use Rattle.record.specs.declared.rows.RecordRow.{RecordRow}
 

@@ -4,7 +4,7 @@
 --   OtherPivots                 each row has 0 at the pivots of the others
 --   NoneAlone                   no row names its pivot alone
 -- Assumes nothing.
-use Rattle.std.specs.Prelude.{◌≡◌, ℕ, ◌<◌, ◌≤◌, ◌≢◌, List, map, length}
+use Rattle.std.specs.Prelude.{◌≡◌, ℕ, ◌<◌, ◌≢◌, List, map, length}
 use Rattle.echelon.specs.Reduced.{Pivoted, at, Alone}
 use Rattle.record.specs.declared.rows.RecordRow.{RecordRow}
 use Rattle.record.specs.Rows.{pivoted}

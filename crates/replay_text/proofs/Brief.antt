@@ -1,7 +1,7 @@
 -- Every reply that is due is short enough to be printed, and every row answered can be logged. Assumes nothing.
-use Rattle.std.proofs.Common.{◌≡◌, ℕ, ◌+◌, ◌<◌, ◌≤◌, List, [], ◌∷◌, length, get_or, Some, None, Ok, Err, Option, Result, sym, refl, ap, ◌∙◌, subst, arith}
+use Rattle.std.proofs.Common.{◌≡◌, ℕ, ◌<◌, ◌≤◌, List, Some, None, Ok, Option, refl, subst, arith}
 use Rattle.refusal.specs.declared.Refusal.{Refusal}
-use Rattle.refusal.specs.Numbered.{number, detail}
+use Rattle.refusal.specs.Numbered.{number}
 use Rattle.field.specs.Model.{FieldModel, FieldLaws}
 use Rattle.field.specs.Sums.{Vector, Codes, sum, weights_of}
 use Rattle.field.specs.declared.Element.{Element}
@@ -29,7 +29,7 @@ use Rattle.query.specs.Refusals.{number_refusal, item_refusal, line_refusal}
 use Rattle.query.proofs.Places.{within}
 use Rattle.answer_log.specs.Writes as writes
 use Rattle.answer_log.specs.Writes.{RowWrite}
-use Rattle.request.specs.Requests.{event, row, Asked, ask_refused, ask_answered, Tried, try_refused, try_withdrawn, Served, ask, try, witness, Handled, remark, faulty, served}
+use Rattle.request.specs.Requests.{event, row, Asked, ask_refused, ask_answered, try_refused, try_withdrawn, Served, ask, try, witness, Handled, remark, faulty, served}
 use Rattle.answer_text.specs.AnswerLines.{Short}
 use Rattle.replay_text.proofs.Rooms.{row_fits}
 

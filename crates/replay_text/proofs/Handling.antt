@@ -1,5 +1,5 @@
 -- What came of a line can be printed and logged. Assumes nothing.
-use Rattle.std.proofs.Common.{◌≡◌, ℕ, ◌<◌, ◌≤◌, List, length, Some, None, Ok, Err, Option, Result, refl, arith}
+use Rattle.std.proofs.Common.{ℕ, ◌<◌, ◌≤◌, List, length, Some, None, Ok, Err, Option, Result, arith}
 use Rattle.field.specs.Model.{FieldModel, FieldLaws}
 use Rattle.server.specs.Tables.{Table, value_at}
 use Rattle.echelon.specs.Rows.{Figured}

@@ -1,5 +1,5 @@
 -- A replay on its way: what is known before each line, and after one line more. Assumes nothing.
-use Rattle.std.proofs.Common.{◌≡◌, ℕ, suc, ◌+◌, ◌-◌, ◌<◌, ◌≤◌, List, [], ◌∷◌, ◌++◌, length, get_or, take, drop, Some, None, Option, sym, refl, ap, ◌∙◌, subst, ap₂, arith, length-drop}
+use Rattle.std.proofs.Common.{◌≡◌, ℕ, suc, ◌+◌, ◌-◌, ◌<◌, ◌≤◌, List, [], ◌∷◌, ◌++◌, length, get_or, take, drop, None, Option, sym, refl, ap, ◌∙◌, subst, ap₂, arith, length-drop}
 use borrow.Rule.Slice.PartMut.{put_mid}
 use Rattle.std.proofs.lemmas.List.{append-nil, append_assoc, take_more, take-take, drop-take, take-append-drop, drop-drop, length-append, length-take-le}
 use Rattle.refusal.specs.declared.Refusal.{Refusal}
@@ -19,7 +19,7 @@ use Rattle.request.specs.Requests.{Served, ask, try, witness, ask_refused, ask_a
 use Rattle.query.specs.declared.lines.Request.{Request}
 use Rattle.replay_text.specs.declared.outcome.Replay.{Replay}
 use Rattle.replay_text.specs.declared.lines.Used.{Used}
-use Rattle.replay_text.specs.Replays.{NoNewline, printed, Lines, one_more, Stops, at_the_end, stopped, Replayed, too_long, no_header, replayed}
+use Rattle.replay_text.specs.Replays.{NoNewline, printed, Lines, one_more, Stops, stopped, Replayed, too_long, no_header, replayed}
 
 -- the rows answered by a line's calls are those of the line
 served-answered :

@@ -1,11 +1,11 @@
 -- The longest row of a log. Assumes nothing.
-use Rattle.std.proofs.Common.{◌≡◌, ℕ, zero, suc, ◌+◌, ◌*◌, ◌/◌, ◌≤◌, Bool, true, false, cond, List, [], length, refl, ap, ◌∙◌, arith, length-append}
+use Rattle.std.proofs.Common.{ℕ, zero, suc, ◌*◌, ◌≤◌, Bool, true, false, cond, [], length, refl, arith, length-append}
 use Rattle.field.specs.Model.{FieldModel}
 use Rattle.field.specs.Bytes.{width, written}
 use Rattle.field.proofs.Widths.{narrow}
 use Rattle.field.specs.Sums.{Vector}
 use Rattle.member_map.specs.Maps.{map_length_lem}
-use Rattle.answer_log.specs.Rows.{names, plain, weight_bytes, stored_bytes, row_bytes}
+use Rattle.answer_log.specs.Rows.{names, plain, weight_bytes, row_bytes}
 use Rattle.answer_log.proofs.Elements.{written-length}
 use Rattle.answer_log.proofs.Buffers.{row-size}
 

@@ -7,7 +7,6 @@ use Rattle.field.specs.Sums.{weights_of}
 use Rattle.field.specs.declared.Element.{Element}
 use Rattle.history.proofs.Checked.{row-check-apart}
 use Rattle.server.specs.Checks.{Count}
-use Rattle.record.specs.Checks.{RowCheck}
 use Rattle.answer_log.specs.Rows.{row_bytes}
 use Rattle.answer_log.specs.Writes.{RowWrite, HeaderWrite, wrong_count, bad_row, no_figure, log_full, accepted}
 

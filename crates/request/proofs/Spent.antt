@@ -1,5 +1,5 @@
 -- A permit that was just issued is answered, and is withdrawn, by the law. Assumes nothing.
-use Rattle.std.proofs.Common.{◌≡◌, ℕ, List, ◌∷◌, length, Some, Ok, Err, Result, sym, refl, subst, arith}
+use Rattle.std.proofs.Common.{◌≡◌, ℕ, List, ◌∷◌, length, Some, Ok, Err, Result, refl, arith}
 use Rattle.refusal.specs.declared.Refusal.{Refusal}
 use Rattle.field.specs.Model.{FieldModel}
 use Rattle.field.specs.Sums.{Vector}
@@ -7,7 +7,7 @@ use Rattle.field.specs.declared.Element.{Element}
 use Rattle.server.specs.Tables.{value_at}
 use Rattle.history.specs.Events.{Start, Event, Reply, OpenRow, submits, answers, withdraws, permits, gives, takes_back, refused, open_row}
 use Rattle.history.specs.Law.{Due, answer_refused, answered_with, withdrawal_refused, withdrawn}
-use Rattle.session.specs.Views.{Holds, Steps, figure_reply, withdrawal_reply}
+use Rattle.session.specs.Views.{Steps, figure_reply, withdrawal_reply}
 use Rattle.session.specs.declared.session.Session.{Session}
 use Rattle.request.specs.Requests.{Asked, Tried, event}
 use Rattle.request.specs.Requests as law

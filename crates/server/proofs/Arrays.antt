@@ -1,5 +1,5 @@
 -- The checks of an array, from what its maker finds in the slice. Assumes nothing.
-use Rattle.std.proofs.Common.{◌≡◌, ℕ, ◌<◌, ◌≤◌, List, length, get_or, Some, None, sym, refl, ap, ◌∙◌, subst, arith}
+use Rattle.std.proofs.Common.{◌≡◌, ℕ, ◌<◌, ◌≤◌, List, length, get_or, Some, None, refl, arith}
 use native.Mathlib.Decide.{dec_lt}
 use lib.ListN.{length-map}
 use Rattle.std.proofs.lemmas.List.{get_or-map}
@@ -8,7 +8,7 @@ use Rattle.refusal.specs.declared.Site.TheVariants.{OfMember}
 use Rattle.field.specs.Model.{FieldModel}
 use Rattle.field.specs.declared.Element.{Element}
 use Rattle.server.specs.Tables.{Table, value_at, codes, listed}
-use Rattle.server.specs.Checks.{Lowest, Count, Stray, ArrayCheck, wrong_count, not_an_element, accepted}
+use Rattle.server.specs.Checks.{Count, Stray, ArrayCheck, wrong_count, not_an_element, accepted}
 use Rattle.server.proofs.Listed.{listed_is}
 
 -- element m of a slice, as its code reads in the list of codes

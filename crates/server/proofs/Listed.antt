@@ -1,12 +1,11 @@
 -- The table that lists k values: a table always, and the values' own list wherever that is a table. Assumes nothing.
-use Rattle.std.proofs.Common.{◌≡◌, ℕ, ◌<◌, ◌≤◌, min, max, Bool, true, false, ltb, List, map, length, get_or, sym, refl, ap, ◌∙◌, subst, zero-add, arith, ltb-true, le-ltb, lt-ltb}
-use Rattle.std.specs.List.{range_with_len}
+use Rattle.std.proofs.Common.{◌≡◌, ℕ, ◌<◌, Bool, true, false, ltb, List, length, get_or, sym, refl, ap, ◌∙◌, zero-add, arith, ltb-true, lt-ltb}
 use Rattle.std.proofs.lemmas.List.FromFn.{length-map-range_with_len, get_or-map-range_with_len}
 use Rattle.std.proofs.lemmas.List.{ext_get_or}
 use Rattle.field.specs.Model.{FieldModel, FieldLaws}
 use Rattle.field.specs.Sums.{Vector}
 use Rattle.field.proofs.Zero.{zero-code}
-use Rattle.server.specs.Tables.{Table, value_at, element_or_zero_lem, bounded, listed}
+use Rattle.server.specs.Tables.{Table, element_or_zero_lem, bounded, listed}
 
 pub element_kept : (M : FieldModel) (e : ℕ) → e < M.size → element_or_zero_lem M e ≡ e
 element_kept M e h = ap (λ b. elim b [ true ↦ e | false ↦ 0 ]) (lt-ltb e M.size h)

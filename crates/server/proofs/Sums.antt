@@ -1,8 +1,8 @@
 -- One member more of a sum, and members whose weight is 0. Assumes nothing.
-use Rattle.std.proofs.Common.{◌≡◌, ℕ, zero, suc, ◌+◌, ◌<◌, ◌≤◌, sym, refl, ap, ◌∙◌, subst, add-zero, add-one, arith}
+use Rattle.std.proofs.Common.{◌≡◌, ℕ, zero, suc, ◌+◌, ◌<◌, ◌≤◌, sym, ap, ◌∙◌, subst, add-zero, add-one, arith}
 use Rattle.field.specs.Model.{FieldModel, FieldLaws}
 use Rattle.field.specs.Sums.{Vector, Codes, sum}
-use Rattle.field.proofs.Zero.{zero-code, zero_right, zero-times}
+use Rattle.field.proofs.Zero.{zero_right, zero-times}
 
 module _ (M : FieldModel) (L : FieldLaws M) (w t : Vector) where
   pub sum_more : (n : ℕ) → sum M (n + 1) w t ≡ M.plus (sum M n w t) (M.times (w n) (t n))

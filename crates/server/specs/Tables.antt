@@ -3,7 +3,7 @@
 --   value_at t          the element of each member, 0 from the count on
 --   listed M k f        the table of k values f, cut to 1 to 64 members, where a code that is no element counts as 0
 -- Assumes nothing.
-use Rattle.std.specs.Prelude.{◌≡◌, ℕ, ◌<◌, ◌≤◌, min, max, true, false, List, map, length, nat_lt, slice_index}
+use Rattle.std.specs.Prelude.{ℕ, ◌<◌, ◌≤◌, min, max, true, false, List, map, length, nat_lt, slice_index}
 use Rattle.std.specs.List.{range_with_len}
 use Rattle.field.specs.Model.{FieldModel}
 use Rattle.field.specs.Sums.{Vector}

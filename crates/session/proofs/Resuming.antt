@@ -1,5 +1,5 @@
 -- A session that is resumed stands for the empty history after its log. Assumes nothing.
-use Rattle.std.proofs.Common.{◌≡◌, ℕ, ◌≢◌, List, [], length, Some, None, Option, sym, refl, ap, ◌∙◌, subst, arith}
+use Rattle.std.proofs.Common.{◌≡◌, ℕ, ◌≢◌, List, [], length, Some, None, Option, sym, subst, arith}
 use Rattle.refusal.specs.declared.Refusal.{Refusal}
 use Rattle.field.specs.Model.{FieldModel, FieldLaws}
 use Rattle.server.specs.Checks.{Count}

@@ -1,5 +1,5 @@
 -- One call more: the reply is due, and the session stands for the history with it. Assumes nothing.
-use Rattle.std.proofs.Common.{◌≡◌, ℕ, ◌+◌, ◌<◌, ◌≤◌, true, false, ◌≢◌, List, [], ◌∷◌, ◌++◌, length, take, is_some, Some, None, Option, sym, refl, ap, ◌∙◌, subst, ap₂, add-zero, arith}
+use Rattle.std.proofs.Common.{◌≡◌, ℕ, ◌+◌, ◌<◌, true, false, ◌≢◌, List, [], ◌∷◌, ◌++◌, length, take, is_some, Some, None, Option, sym, refl, ap, ◌∙◌, subst, add-zero, arith}
 use native.Mathlib.Decide.{ℕ_discrete}
 use borrow.Author.Tests.{clash}
 use lib.ListN.{length-map, get_or-map}
@@ -7,12 +7,12 @@ use Rattle.refusal.specs.declared.Refusal.{Refusal}
 use Rattle.refusal.specs.declared.Refusal.TheVariants.{PermitOpen, PermitsSpent, Discloses, NotTheOpenPermit}
 use Rattle.refusal.specs.declared.Site.TheVariants.{OfMember}
 use Rattle.field.specs.Model.{FieldModel, FieldLaws}
-use Rattle.field.specs.Sums.{Vector, Codes, sum, weights_of}
+use Rattle.field.specs.Sums.{Vector, sum, weights_of}
 use Rattle.field.specs.declared.Element.{Element}
 use Rattle.server.specs.Checks.{Lowest}
 use Rattle.server.specs.Tables.{value_at, codes}
-use Rattle.echelon.specs.Rows.{Figured, rows_of, RowsCodes, Pins, Fixes}
-use Rattle.echelon.specs.Reduced.{Pivoted, at, all_figured, Alone, Reduced, ReducedForm}
+use Rattle.echelon.specs.Rows.{Figured, rows_of, RowsCodes, Fixes}
+use Rattle.echelon.specs.Reduced.{Pivoted, at, Alone, Reduced, ReducedForm}
 use Rattle.echelon.specs.Witness.{Witness}
 use Rattle.echelon.proofs.Tables.{pinned_alone_lem}
 use Rattle.record.specs.Checks.{RowCheck, WitnessCheck}

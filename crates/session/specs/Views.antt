@@ -5,7 +5,7 @@
 --   Holds M T x s h         the session x, over the table T, stands for the history h from the start s
 --   Steps M T x c r x'      for every history that x stands for, the reply r is due to the call c, and x' stands for the history with both added
 -- Assumes nothing.
-use Rattle.std.specs.Prelude.{◌≡◌, ℕ, ◌<◌, List, ◌∷◌, length, take, Some, None, Ok, Err, Option, Result}
+use Rattle.std.specs.Prelude.{◌≡◌, ℕ, List, ◌∷◌, length, take, Some, None, Ok, Err, Option, Result}
 use Rattle.field.specs.Model.{FieldModel}
 use Rattle.field.specs.Sums.{weights_of}
 use Rattle.server.specs.Tables.{value_at}

@@ -1,7 +1,7 @@
 -- What comes with the refusal of a table file is small. Assumes nothing.
 use Rattle.std.proofs.Common.{ℕ, ◌≤◌, List, Some, None, Option, arith}
 use Rattle.refusal.specs.declared.Refusal.{Refusal}
-use Rattle.refusal.specs.Numbered.{number, detail}
+use Rattle.refusal.specs.Numbered.{detail}
 use Rattle.field.specs.Model.{FieldModel}
 use Rattle.table_file.specs.Files.{FileCheck, no_header, wrong_kind, wrong_count, map_cut, stray_bit, wrong_length, not_an_element, stored_zero, accepted}
 

@@ -1,16 +1,15 @@
 -- Two rows over amounts, and what they leave free. Assumes nothing.
-use Rattle.std.proofs.Common.{◌≡◌, ℕ, zero, suc, ◌+◌, ◌*◌, ◌%◌, ◌<◌, ◌≢◌, List, [], ◌∷◌, None, sym, refl, ap, ◌∙◌, subst, ap₂, arith, lit<, lit≤}
+use Rattle.std.proofs.Common.{◌≡◌, ℕ, zero, suc, ◌+◌, ◌*◌, ◌%◌, ◌<◌, ◌≢◌, [], ◌∷◌, sym, refl, ap, ◌∙◌, subst, ap₂, arith, lit<}
 use native.Mathlib.Nat.{add-mod}
 use Rattle.field.specs.Sums.{Vector, Codes, minus, sum, weights_of}
 use Rattle.amounts.specs.Prime.{amounts}
 use Rattle.amounts.specs.Modular.{times-mod-left}
 use Rattle.amounts.specs.Inverse.{found}
-use Rattle.server.specs.Tables.{value_at}
-use Rattle.echelon.specs.Rows.{rows_of, Fits, Pins, Fixes}
-use Rattle.echelon.specs.Reduced.{at, Reduced, ReducedForm, FitsGiven, all_figured}
+use Rattle.echelon.specs.Rows.{Pins, Fixes}
+use Rattle.echelon.specs.Reduced.{at, Reduced, ReducedForm}
 use Rattle.echelon.specs.Witness.{Free, base, direction, Leads, from_free, from_pivot, Witness}
 use Rattle.record.specs.Checks as check
-use Rattle.history.specs.Events.{Event, new_session, given, submits, witnesses, fills, refuses}
+use Rattle.history.specs.Events.{new_session, given, submits, witnesses, fills, refuses}
 use Rattle.history.specs.Law.{PinnedBy, Due, Lawful, begins}
 use Rattle.history.specs.Law as law
 use Rattle.worked_cases.specs.Cases.{weighing, answered_row, wages, two_answered, two_rows}

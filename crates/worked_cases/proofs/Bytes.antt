@@ -1,14 +1,13 @@
 -- The table file and the log. Assumes nothing.
-use Rattle.std.proofs.Common.{◌≡◌, ℕ, zero, suc, ◌<◌, ◌≤◌, true, false, List, [], ◌∷◌, None, sym, refl, ◌∙◌, inl, inr, arith, lit<, lit≤}
+use Rattle.std.proofs.Common.{◌≡◌, ℕ, zero, suc, ◌<◌, ◌≤◌, false, [], ◌∷◌, None, sym, refl, ◌∙◌, inl, inr, arith, lit≤}
 use borrow.Author.Tests.{clash}
 use Rattle.amounts.specs.Prime.{amounts}
 use Rattle.server.specs.Tables.{value_at}
-use Rattle.member_map.specs.Maps.{named, named_below, Stray}
+use Rattle.member_map.specs.Maps.{named, named_below}
 use Rattle.table_file.specs.Files.{count_of, map_of, file_value, file_table, Framed, Faulty, FileCheck}
 use Rattle.table_file.specs.Files as files
-use Rattle.answer_log.specs.Rows.{header_bytes, bits, map_bytes, plain, weight_bytes, row_bytes}
+use Rattle.answer_log.specs.Rows.{bits, map_bytes, plain, weight_bytes, row_bytes}
 use Rattle.worked_cases.specs.Cases.{file_bytes}
-use Rattle.worked_cases.proofs.Few.{of_three}
 
 pub file_means : file_table amounts file_bytes ≡ 120 ∷ 0 ∷ 70 ∷ []
 unfolding named_below

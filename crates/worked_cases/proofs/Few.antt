@@ -1,14 +1,14 @@
 -- Three members, and a session's calls over them. Assumes nothing.
-use Rattle.std.proofs.Common.{◌≡◌, ℕ, zero, suc, ◌+◌, ◌<◌, ◌≤◌, ◌≢◌, List, [], ◌∷◌, None, refl, subst, arith, lit<}
+use Rattle.std.proofs.Common.{◌≡◌, ℕ, zero, suc, ◌+◌, ◌<◌, ◌≢◌, List, [], ◌∷◌, None, refl, subst, arith, lit<}
 use Rattle.field.specs.Model.{FieldModel}
 use Rattle.field.specs.Sums.{Vector, Codes, sum, weights_of}
 use Rattle.field.specs.declared.Element.{Element}
 use Rattle.server.specs.Checks.{Lowest}
 use Rattle.server.specs.Tables.{value_at}
-use Rattle.echelon.specs.Rows.{Figured, rows_of, Agree, Pins}
+use Rattle.echelon.specs.Rows.{Figured, rows_of, Agree}
 use Rattle.record.specs.Checks.{RowCheck}
 use Rattle.record.specs.Checks as check
-use Rattle.history.specs.Events.{Event, new_session, issued, open_row, given, submits, answers, permits, gives}
+use Rattle.history.specs.Events.{Event, new_session, issued, given, submits, answers, permits, gives}
 use Rattle.history.specs.Law.{PinnedBy, Ready, Due, Lawful, goes_on}
 use Rattle.history.specs.Law as law
 use Rattle.worked_cases.specs.Cases.{weighing, answered_row}

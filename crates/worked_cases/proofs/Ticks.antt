@@ -1,11 +1,10 @@
 -- Three rows over ticks. Assumes nothing.
 use Rattle.std.proofs.Common.{◌≡◌, ℕ, ◌<◌, List, [], ◌∷◌, sym, refl, ap, ◌∙◌, ap₂, arith, lit<}
 use Rattle.field.specs.Model.{FieldModel, FieldLaws}
-use Rattle.field.specs.Sums.{Vector, Codes, sum, weights_of}
+use Rattle.field.specs.Sums.{Vector, Codes, sum}
 use Rattle.field.proofs.Zero.{zero-code, zero_right, zero-times}
 use Rattle.ticks.specs.Polynomials.{ticks_field, double, by_bits, product}
 use Rattle.ticks.specs.Laws.{laws}
-use Rattle.echelon.specs.Rows.{rows_of, Pins}
 use Rattle.history.specs.Events.{Event, new_session, given, submits, refuses}
 use Rattle.history.specs.Law.{PinnedBy, Due, Lawful, begins}
 use Rattle.history.specs.Law as law

@@ -1,7 +1,6 @@
 use Rattle.std.proofs.Common.{◌/◌, ◌%◌, ◌^◌, eqb, sym, ap, ◌∙◌, arith, tests}
 use native.Mathlib.Nat.{zero-div}
 use Rattle.std.proofs.lemmas.List.{get_or_past}
-use Rattle.member_map.specs.Maps.{named}
 use Rattle.member_map.proofs.is_named.Goals as goal
 
 pub returns-in-None : goal.returns-in-None

@@ -1,4 +1,4 @@
-use Rattle.std.proofs.Common.{sym, ap, ◌∙◌, arith}
+use Rattle.std.proofs.Common.{sym, ◌∙◌, arith}
 use Rattle.member_map.proofs.Counts.{none_below, below-named, below_unnamed}
 use Rattle.member_map.proofs.named_count.Goals as goal
 use Rattle.member_map.proofs.named_count.Goals.{then-is_named, else-is_named}

@@ -1,4 +1,4 @@
-use Rattle.std.proofs.Common.{◌≡◌, ◌-◌, ◌*◌, ◌/◌, ◌%◌, ◌<◌, sym, ap, ◌∙◌, lt_trans, mod-lt, mod-eq_of_lt, mul-one, arith, rules}
+use Rattle.std.proofs.Common.{◌≡◌, ◌*◌, ◌%◌, ◌<◌, sym, ap, ◌∙◌, lt_trans, mod-lt, mod-eq_of_lt, mul-one, arith}
 use Rattle.std.proofs.lemmas.Nat.{mul-lt}
 use Rattle.amounts.specs.Modular.{times-mod-left}
 use Rattle.amounts.specs.Inverse.{prime, turn, found, none_at_zero}

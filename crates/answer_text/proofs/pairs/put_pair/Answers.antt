@@ -1,5 +1,5 @@
 -- Answers for `put_pair`: the mark, then the numbers.
-use Rattle.std.proofs.Common.{◌+◌, [], ◌∷◌, ◌++◌, decimal, sym, ap, arith}
+use Rattle.std.proofs.Common.{[], ◌∷◌, ◌++◌, decimal, sym, ap, arith}
 use Rattle.std.proofs.lemmas.List.{append-nil}
 use Rattle.buffer.proofs.Fronts.{same_length, part_length, front_byte, front-put, front_all}
 use Rattle.answer_text.specs.AnswerLines.{after_space, spaced}

@@ -1,5 +1,5 @@
 -- Answers for `join_row`: what the record says of the row, in terms of the rows before.
-use Rattle.std.proofs.Common.{◌≡◌, sym, refl, ◌∙◌, subst, arith}
+use Rattle.std.proofs.Common.{sym, refl, ◌∙◌, subst, arith}
 use borrow.Author.Tests.{clash}
 use Rattle.field.specs.Sums.{weights_of}
 use Rattle.record.specs.Judged.{Judged}

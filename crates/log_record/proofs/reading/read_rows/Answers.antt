@@ -1,7 +1,6 @@
 -- Answers for `read_rows`: row after row.
 use Rattle.std.proofs.Common.{◌≡◌, ℕ, ◌<◌, ◌≤◌, List, [], ◌∷◌, length, get_or, take, drop, Some, None, sym, ◌∙◌, subst, arith, rules}
 use Rattle.std.proofs.lemmas.Result.{err_from_is_err_and}
-use Rattle.field.specs.Sums.{weights_of}
 use Rattle.record.specs.Checks.{RowCheck}
 use Rattle.record.specs.Judged.{given_row}
 use Rattle.record.specs.Records.{rec_of}

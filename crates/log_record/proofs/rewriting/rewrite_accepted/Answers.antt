@@ -1,4 +1,4 @@
-use Rattle.std.proofs.Common.{◌≡◌, length, Option, refl, subst}
+use Rattle.std.proofs.Common.{length, Option, refl, subst}
 use Rattle.refusal.specs.declared.Refusal.{Refusal}
 use Rattle.log_record.specs.Joins.{LogRecord}
 use Rattle.log_record.specs.Rewrites.{log_refused}

@@ -1,5 +1,5 @@
 use Rattle.std.proofs.Common.{◌≡◌, suc, ◌+◌, ◌<◌, length, drop, is_ok, sym, ap, ◌∙◌, arith, rules}
-use Rattle.query.specs.Numbers.{digits, read_digit_lem}
+use Rattle.query.specs.Numbers.{digits}
 use Rattle.query.proofs.Digits.{digit_more}
 use Rattle.query.proofs.numbers.digits_end.Goals as goal
 

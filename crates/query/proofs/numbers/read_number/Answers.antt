@@ -1,5 +1,5 @@
 use Rattle.std.proofs.Common.{◌≡◌, ℕ, ◌+◌, ◌-◌, ◌≤◌, Bool, ◌&&◌, eqb, ltb, List, length, take, drop, sym, ap, ◌∙◌, arith, rules}
-use Rattle.query.specs.Numbers.{digits, worth, read_digit_lem}
+use Rattle.query.specs.Numbers.{digits, worth}
 use Rattle.std.proofs.lemmas.Result.{err_from_is_err_and}
 use Rattle.query.proofs.Digits.{digits-digits, take-digits, worth-short}
 use Rattle.query.proofs.Checks.{number_none, number-zero, number_long, number-within, number_out, number_in}

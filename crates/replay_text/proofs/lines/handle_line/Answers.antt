@@ -1,5 +1,5 @@
-use Rattle.std.proofs.Common.{◌≡◌, ℕ, ◌<◌, ◌≤◌, List, length, sym, refl, ap, ◌∙◌, subst, arith}
-use Rattle.server.specs.Tables.{Table, value_at}
+use Rattle.std.proofs.Common.{ℕ, ◌≤◌, length, subst, arith}
+use Rattle.server.specs.Tables.{Table}
 use Rattle.buffer.specs.Buffers.{Put}
 use Rattle.log_record.specs.Joins.{rows_bytes}
 use Rattle.request.specs.Carried.{outcome_reply, outcome_rows}

@@ -1,4 +1,4 @@
-use Rattle.std.proofs.Common.{◌≡◌, ℕ, length, sym, refl, ap, ◌∙◌, subst, arith}
+use Rattle.std.proofs.Common.{◌≡◌, ℕ, length, sym, refl, subst, arith}
 use Rattle.buffer.specs.Buffers.{onto}
 use Rattle.server.specs.Checks.{Count}
 use Rattle.server.specs.Tables.{value_at}

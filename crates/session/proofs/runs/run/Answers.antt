@@ -1,8 +1,8 @@
-use Rattle.std.proofs.Common.{◌≡◌, ℕ, ◌+◌, ◌≤◌, List, [], ◌∷◌, length, get_or, take, vec_items, vec_len, sym, refl, ap, ◌∙◌, subst, ap₂, arith, length-take, take_all}
+use Rattle.std.proofs.Common.{◌≡◌, ℕ, ◌+◌, List, [], ◌∷◌, length, get_or, take, vec_items, sym, ap, ◌∙◌, subst, ap₂, arith, length-take, take_all}
 use Rattle.std.proofs.lemmas.List.{take_more}
 use Rattle.std.proofs.lemmas.Result.{err_from_is_err_and}
 use Rattle.server.specs.Tables.{value_at}
-use Rattle.history.specs.Events.{Event, new_session}
+use Rattle.history.specs.Events.{new_session}
 use Rattle.history.specs.Law.{Lawful}
 use Rattle.history.proofs.Exact.{judging_is_exact_lem}
 use Rattle.history.proofs.Possible.{every_value_stays_possible_lem}

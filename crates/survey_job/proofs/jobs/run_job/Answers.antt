@@ -1,5 +1,5 @@
 -- Answers for `run_job`: by the file's check.
-use Rattle.std.proofs.Common.{◌≡◌, ℕ, List, [], Some, vec_items, sym, subst}
+use Rattle.std.proofs.Common.{ℕ, List, Some, vec_items, sym, subst}
 use Rattle.std.proofs.lemmas.Result.{err_from_is_err_and, IfOk-weaker}
 use Rattle.refusal.specs.Numbered.{number, detail}
 use Rattle.history.proofs.Exact.{judging_is_exact_lem}

@@ -1,5 +1,5 @@
 -- Answers for `replay_new`: the new session stands for the empty history, and the replay goes on from there.
-use Rattle.std.proofs.Common.{◌≡◌, List, [], ◌++◌, length, take, vec_items, sym, ap, ◌∙◌, subst, arith}
+use Rattle.std.proofs.Common.{[], ◌++◌, length, take, vec_items, sym, ap, ◌∙◌, subst, arith}
 use Rattle.history.specs.Events.{new_session}
 use Rattle.session.specs.Views.{Sound, Holds}
 use Rattle.survey_job.specs.Jobs.{stop_text, Replays}

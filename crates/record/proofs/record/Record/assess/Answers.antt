@@ -1,5 +1,5 @@
-use Rattle.std.proofs.Common.{◌≡◌, ℕ, ◌<◌, sym, refl, ap, ◌∙◌, subst}
-use Rattle.record.specs.Rows.{figured_row, pivoted, SameRow}
+use Rattle.std.proofs.Common.{sym, ◌∙◌}
+use Rattle.record.specs.Rows.{figured_row}
 use Rattle.record.specs.Judged.{given_row}
 use Rattle.record.specs.Records.{rec_of}
 use Rattle.record.specs.Standings.{fixed, pinning, fresh}

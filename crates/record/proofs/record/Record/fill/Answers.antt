@@ -1,11 +1,8 @@
-use Rattle.std.proofs.Common.{◌≡◌, ℕ, ◌+◌, ◌<◌, ◌≤◌, ◌≢◌, length, get_or, set, sym, refl, ap, ◌∙◌, subst, ap₂, arith, length-set, below_more}
+use Rattle.std.proofs.Common.{◌≡◌, ◌<◌, ◌≤◌, ◌≢◌, length, get_or, set, sym, ap, ◌∙◌, arith, length-set, below_more}
 use native.Mathlib.Decide.{ℕ_discrete}
 use lib.ListN.{length-map}
 use Rattle.field.specs.Sums.{weights_of}
-use Rattle.field.specs.declared.Element.{Element}
-use Rattle.echelon.specs.Reduced.{Pivoted, at}
-use Rattle.echelon.specs.Witness.{Free}
-use Rattle.record.specs.Rows.{pivoted}
+use Rattle.echelon.specs.Reduced.{at}
 use Rattle.record.specs.Records.{rec_of}
 use Rattle.record.proofs.Views.{facts_of, reduced_of, no_record_row}
 use Rattle.record.proofs.Weights.{written, unwritten}

@@ -1,9 +1,9 @@
-use Rattle.std.proofs.Common.{◌≡◌, ℕ, suc, ◌+◌, ◌<◌, ◌≤◌, true, false, cond, List, length, is_ok, vec_items, vec_len, vec_capacity, sym, refl, ap, ◌∙◌, subst, arith}
+use Rattle.std.proofs.Common.{◌≡◌, true, cond, List, length, is_ok, vec_items, sym, refl, ap, ◌∙◌, subst, arith}
 use borrow.Author.Tests.{clash}
 use lib.ListN.{length-map}
 use Rattle.std.specs.List.{insert}
-use Rattle.echelon.specs.Reduced.{Pivoted, at, Same, Reduced}
-use Rattle.echelon.specs.Elimination.{pivot_cleared, joined}
+use Rattle.echelon.specs.Reduced.{Same}
+use Rattle.echelon.specs.Elimination.{joined}
 use Rattle.echelon.proofs.Unique.{same-reduced}
 use Rattle.record.specs.Rows.{pivoted}
 use Rattle.record.specs.Shapes.{all_pivoted}

@@ -1,4 +1,4 @@
-use Rattle.std.proofs.Common.{◌≡◌, ℕ, ◌<◌, ◌≤◌, ◌≢◌, length, get_or, sym, refl, ap, ◌∙◌, subst, ap₂, arith, below_more}
+use Rattle.std.proofs.Common.{◌≡◌, ℕ, ◌≤◌, ◌≢◌, length, get_or, sym, ap, ◌∙◌, subst, ap₂, arith, below_more}
 use lib.ListN.{length-map}
 use Rattle.field.specs.Sums.{minus}
 use Rattle.echelon.specs.Reduced.{Pivoted, at, Alone}

@@ -1,8 +1,7 @@
-use Rattle.std.proofs.Common.{◌≤◌, length, take, vec_items}
+use Rattle.std.proofs.Common.{take}
 use Rattle.echelon.specs.Elimination.{leftover}
 use Rattle.record.specs.Rows.{figured_row, SameRow, CodedRow}
 use Rattle.record.specs.Records.{rec_of}
-use Rattle.record.specs.Judged.{given_row}
 use Rattle.record.proofs.record.Record.leftover.Given as goal
 
 abbrev pub invariant-loop-by : goal.invariant-loop-by

@@ -1,11 +1,11 @@
-use Rattle.std.proofs.Common.{◌≡◌, ℕ, ◌<◌, ◌≤◌, length, get_or, sym, ap, ◌∙◌, subst, arith, below_more}
+use Rattle.std.proofs.Common.{◌≡◌, ℕ, ◌≤◌, length, get_or, sym, ◌∙◌, subst, arith, below_more}
 use lib.ListN.{length-map}
 use Rattle.server.specs.Checks.{Lowest}
-use Rattle.echelon.specs.Reduced.{Pivoted, at}
+use Rattle.echelon.specs.Reduced.{Pivoted}
 use Rattle.record.specs.Rows.{figured_row, pivoted}
 use Rattle.record.specs.Records.{rec_of}
 use Rattle.record.specs.Judged.{AloneWith}
-use Rattle.record.proofs.Views.{facts_of, reduced_of, no_record_row, rows-length}
+use Rattle.record.proofs.Views.{facts_of, reduced_of, no_record_row}
 use Rattle.record.proofs.Alone.{alone-found, alone_missed, row_is_lowest, fresh_is_lowest, none_is, not_alone}
 use Rattle.record.proofs.record.Record.lowest_alone.Goals as goal
 

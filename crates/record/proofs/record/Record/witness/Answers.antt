@@ -1,4 +1,4 @@
-use Rattle.std.proofs.Common.{◌≡◌, ◌<◌, refl, arith}
+use Rattle.std.proofs.Common.{◌<◌, refl, arith}
 use Rattle.field.specs.Sums.{weights_of}
 use Rattle.echelon.specs.Witness.{Witness}
 use Rattle.echelon.proofs.Tables.{witness-fits}

@@ -1,6 +1,5 @@
-use Rattle.std.proofs.Common.{◌≡◌, ◌<◌, length, get_or, sym, refl, ◌∙◌, arith, length-set}
+use Rattle.std.proofs.Common.{◌<◌, length, sym, refl, ◌∙◌, arith, length-set}
 use native.Mathlib.Decide.{dec_lt}
-use Rattle.field.specs.Sums.{weights_of}
 use Rattle.record.proofs.Weights.{zeros, past_end, copied_more, rest_unwritten}
 use Rattle.record.proofs.rows.FiguredRow.of.Goals as goal
 

@@ -1,7 +1,5 @@
-use Rattle.std.proofs.Common.{◌≡◌, ℕ, ◌<◌, ◌≤◌, length, sym, ◌∙◌, arith}
-use native.Mathlib.Decide.{dec_lt}
-use Rattle.field.specs.Sums.{Codes, weights_of}
-use Rattle.record.specs.Checks.{StrayWeight, wrong_length, not_an_element, none_named, accepted}
+use Rattle.std.proofs.Common.{◌≤◌, length, arith}
+use Rattle.record.specs.Checks.{wrong_length, not_an_element, none_named, accepted}
 use Rattle.record.proofs.Checks.{none_stray}
 use Rattle.record.proofs.rows.checks.check_row.Goals as goal
 

@@ -1,4 +1,4 @@
-use Rattle.std.proofs.Common.{◌≡◌, ℕ, ◌<◌, ◌≤◌, length, get_or, sym, refl, ap, ◌∙◌, ⊎_elim, arith, below_more, tests, eqb-true}
+use Rattle.std.proofs.Common.{◌≡◌, length, sym, ◌∙◌, ⊎_elim, arith, below_more, eqb-true}
 use borrow.Author.Tests.{eqb-false}
 use Rattle.server.specs.Checks.{Count}
 use Rattle.server.proofs.Arrays.{wrong, stray, not_stray, fine}

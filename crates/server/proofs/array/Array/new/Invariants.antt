@@ -1,6 +1,6 @@
-use Rattle.std.proofs.Common.{ℕ, ◌<◌, ◌≤◌, length}
+use Rattle.std.proofs.Common.{ℕ, ◌<◌}
 use Rattle.server.specs.Tables.{codes}
-use Rattle.server.specs.Checks.{Count, Stray}
+use Rattle.server.specs.Checks.{Stray}
 use Rattle.server.proofs.array.Array.new.Given as goal
 
 abbrev pub invariant-loop-m : goal.invariant-loop-m

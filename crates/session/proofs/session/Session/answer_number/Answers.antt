@@ -1,4 +1,4 @@
-use Rattle.std.proofs.Common.{◌≡◌, ℕ, ◌-◌, ◌<◌, true, false, List, length, take, is_ok, Some, None, Option, sym, refl, ap, ◌∙◌, subst, arith}
+use Rattle.std.proofs.Common.{◌≡◌, ℕ, ◌-◌, true, List, length, take, is_ok, Some, None, Option, sym, refl, ap, ◌∙◌, subst, arith}
 use borrow.Author.Tests.{clash}
 use Rattle.field.specs.Sums.{sum, weights_of}
 use Rattle.field.specs.declared.Element.{Element}

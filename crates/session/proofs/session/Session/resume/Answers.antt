@@ -1,5 +1,5 @@
 -- Answers for `resume`: the session stands for the log's rows, and for no call yet.
-use Rattle.std.proofs.Common.{◌≡◌, ℕ, List, length, None, refl, ap, ◌∙◌, subst}
+use Rattle.std.proofs.Common.{ℕ, List, length, None, refl, ap, ◌∙◌, subst}
 use Rattle.server.specs.Tables.{bounded}
 use Rattle.echelon.specs.Rows.{Figured}
 use Rattle.echelon.specs.Reduced.{ReducedForm}

@@ -1,5 +1,5 @@
 -- Answers for `value`: the element of a member of the view.
-use Rattle.std.proofs.Common.{sym, ap, ◌∙◌, arith}
+use Rattle.std.proofs.Common.{ap, ◌∙◌, arith}
 use Rattle.server.specs.Tables.{element_or_zero_lem}
 use Rattle.server.proofs.Listed.{answered}
 use Rattle.table_file.specs.Files.{count_of, file_value}

@@ -1,4 +1,4 @@
-use Rattle.std.proofs.Common.{◌≡◌, ◌<◌, ◌≤◌, length, sym, ◌∙◌, ap₂, arith}
+use Rattle.std.proofs.Common.{◌<◌, ◌≤◌, length, sym, ◌∙◌, ap₂, arith}
 use Rattle.server.specs.Tables.{sums}
 use Rattle.server.proofs.Pairs.{sums-length, sums_at}
 use Rattle.server.proofs.pair.calls.PairServer.value.Goals as goal
