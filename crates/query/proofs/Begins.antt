@@ -1,6 +1,6 @@
 -- Up to the place of an 18 the line begins a line of the grammar. Assumes nothing.
 use Rattle.std.proofs.Common.{◌≡◌, ℕ, ◌+◌, ◌-◌, ◌<◌, ◌≤◌, ◌⊎◌, List, [], ◌∷◌, ◌++◌, length, drop, Ok, decimal, sym, refl, ap, ◌∙◌, subst, inl, inr, append_assoc, arith}
-use Rattle.std.specs.List.{flat_map, AllByRecursion as All}
+use Rattle.std.specs.List.{flat_map, AllByRecursion}
 use Rattle.std.proofs.lemmas.List.{append-nil, length-append}
 use Rattle.query.specs.declared.numbers.Numeral.{Numeral}
 use Rattle.query.specs.declared.items.Limits.{Limits}
@@ -23,7 +23,7 @@ pub record Begun (rest : List ℕ) (k : ℕ) : Type 0 where
   pub more : List ℕ
   pub first_entry : Entry
   pub entries : List Entry
-  pub short : All Short (first_entry ∷ entries)
+  pub short : AllByRecursion Short (first_entry ∷ entries)
   pub spell : front ++ more ≡ flat_map text (first_entry ∷ entries)
 
 -- a space and a number that were read
@@ -156,7 +156,7 @@ pub record Viable (line : List ℕ) (q : ℕ) : Type 0 where
   pub more : List ℕ
   pub shaped : Shaped (front ++ more)
 
-row-shaped : (b : ℕ) (e : Entry) (es : List Entry) → (b ≡ 97) ⊎ (b ≡ 116) → All Short (e ∷ es) → Shaped (b ∷ flat_map text (e ∷ es))
+row-shaped : (b : ℕ) (e : Entry) (es : List Entry) → (b ≡ 97) ⊎ (b ≡ 116) → AllByRecursion Short (e ∷ es) → Shaped (b ∷ flat_map text (e ∷ es))
 row-shaped b e es (inl a) h = subst (λ c. Shaped (c ∷ flat_map text (e ∷ es))) (sym a) (ask e es h)
 row-shaped b e es (inr t) h = subst (λ c. Shaped (c ∷ flat_map text (e ∷ es))) (sym t) (try e es h)
 

@@ -1,6 +1,6 @@
 -- What spells a request is accepted as it. Assumes nothing.
 use Rattle.std.proofs.Common.{◌≡◌, ℕ, ◌+◌, ◌<◌, ◌≤◌, false, ◌≢◌, ◌⊎◌, List, [], ◌∷◌, ◌++◌, length, drop, set, Some, Ok, decimal, sym, refl, ap, ◌∙◌, inl, inr, ⊎_elim, append_assoc, arith}
-use Rattle.std.specs.List.{flat_map, AllByRecursion as All}
+use Rattle.std.specs.List.{flat_map, AllByRecursion}
 use Rattle.std.proofs.lemmas.List.{append-nil, drop_at, drop-drop, length-drop, length-append, get_or-set_other, get_or-replicate, get_or_past}
 use Rattle.std.proofs.ByRecursion.{All-weaker}
 use Rattle.std.proofs.lemmas.Bool.{cases_lt}
@@ -35,7 +35,7 @@ ends_joined [] = inl refl
 ends_joined (alone m ∷ es) = inr (decimal m ++ flat_map text es, refl)
 ends_joined (weighted m w ∷ es) = inr ((decimal m ++ (58 ∷ decimal w)) ++ flat_map text es, refl)
 
-both : {X : Type 0} (P Q : X → Type 0) (xs : List X) → All P xs → All Q xs → All (λ x. P x × Q x) xs
+both : {X : Type 0} (P Q : X → Type 0) (xs : List X) → AllByRecursion P xs → AllByRecursion Q xs → AllByRecursion (λ x. P x × Q x) xs
 both P Q [] p q = tt
 both P Q (x ∷ xs) p q = ((p.0, q.0), both P Q xs p.1 q.1)
 
@@ -93,7 +93,7 @@ module _ (lim : Limits) (few : lim.members ≤ 64) (size : lim.size ≤ 65536) (
 
   items_read :
       (e : Entry) (es : List Entry) (row : List Element) (p : ℕ) → Named lim (e ∷ es)
-      → All (λ f. weight_of row (member f) ≡ 0) (e ∷ es) → drop p line ≡ flat_map text (e ∷ es)
+      → AllByRecursion (λ f. weight_of row (member f) ≡ 0) (e ∷ es) → drop p line ≡ flat_map text (e ∷ es)
       → read_items_lem lim row line p ≡ Ok (record { 0 = with_weights row (e ∷ es) })
   items_read e [] row p named fresh is =
       let r = item_reads e row p [] named.in_range.0 fresh.0 is (inl refl) in
@@ -125,7 +125,7 @@ unnamed m =
     ap (λ x. x.0)
     (⊎_elim (λ h. get_or-replicate 64 m (code 0) (code 0) h) (λ h. get_or_past no_weights m (code 0) h) (cases_lt m 64))
 
-all_unnamed : (es : List Entry) → All (λ f. weight_of no_weights (member f) ≡ 0) es
+all_unnamed : (es : List Entry) → AllByRecursion (λ f. weight_of no_weights (member f) ≡ 0) es
 all_unnamed [] = tt
 all_unnamed (e ∷ es) = (unnamed (member e), all_unnamed es)
 

@@ -1,7 +1,7 @@
 -- At the place of an 18 the line leaves every line of the grammar. Assumes nothing.
 use Rattle.std.proofs.Common.{◌≡◌, ℕ, suc, ◌+◌, ◌<◌, ◌≤◌, Bool, true, false, cond, ◌⊎◌, List, [], ◌∷◌, ◌++◌, length, get_or, take, drop, Some, None, Ok, decimal, Result, sym, refl, ap, ◌∙◌, subst, inl, ⊎_elim, append_assoc, arith}
 use Rattle.std.specs.Char.{is_ascii_digit}
-use Rattle.std.specs.List.{flat_map, AllByRecursion as All}
+use Rattle.std.specs.List.{flat_map, AllByRecursion}
 use Rattle.std.proofs.lemmas.List.{append-nil, drop-drop, length-append, length-take-le, take_at, take-append-drop, get_or_append_left}
 use Rattle.std.proofs.lemmas.Bool.{cases_Bool}
 use Rattle.query.specs.declared.faults.LineFault.{LineFault}
@@ -150,7 +150,7 @@ colon_part limit line zs p m agree found t n (weighted v w) rest small ends is =
 
 items_part :
     (lim : Limits) (line zs : List ℕ) (p q : ℕ) → ItemsStop lim line p q → Agree line zs q → (e : Entry) (es : List Entry)
-    → All Short (e ∷ es) → drop p zs ≡ flat_map text (e ∷ es) → ⊥
+    → AllByRecursion Short (e ∷ es) → drop p zs ≡ flat_map text (e ∷ es) → ⊥
 items_part lim line zs p q (spaced s) agree e es short is = entry_part line zs p q agree s e (flat_map text es) short.0 (ends_joined es) is
 items_part lim line zs p q (no_weight m found t n) agree e es short is =
     colon_part lim.members line zs p m agree found t n e (flat_map text es) short.0 (ends_joined es) is

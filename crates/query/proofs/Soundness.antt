@@ -1,6 +1,6 @@
 -- What is accepted spells its request. Assumes nothing.
 use Rattle.std.proofs.Common.{◌≡◌, ℕ, zero, suc, ◌+◌, ◌-◌, ◌<◌, ◌≤◌, eqb, ◌≢◌, ◌⊎◌, List, [], ◌∷◌, ◌++◌, length, drop, set, Some, Ok, Err, decimal, Result, sym, refl, ap, ◌∙◌, subst, inl, inr, ⊎_elim, append_assoc, arith}
-use Rattle.std.specs.List.{flat_map, AllByRecursion as All}
+use Rattle.std.specs.List.{flat_map, AllByRecursion}
 use Rattle.std.proofs.lemmas.List.{append-nil, drop_all, length-set, get_or-set_same, get_or-set_other}
 use Rattle.std.proofs.ByRecursion.{All-weaker}
 use Rattle.std.proofs.lemmas.Bool.{cases_Bool, cases_eq, cases_lt, eqb-true, ltb-false, cond-true, cond-false}
@@ -79,7 +79,7 @@ record Entries (lim : Limits) (row : List Element) (rest : List ℕ) (final : Li
   others : List Entry
   is : rest ≡ flat_map text (first ∷ others)
   named : Named lim (first ∷ others)
-  fresh : All (λ f. weight_of row (member f) ≡ 0) (first ∷ others)
+  fresh : AllByRecursion (λ f. weight_of row (member f) ≡ 0) (first ∷ others)
   final_is : final ≡ with_weights row (first ∷ others)
 
 -- a member unnamed after a weight was set is another one, and was unnamed before
@@ -113,8 +113,8 @@ entered lim row line p i m final long below unnamed w (inr more) =
     let set_is : set row i.member.0 i.weight ≡ set row (member w.entry) (code (weight w.entry)) =
     ap (λ k. set row k i.weight) (w.member_is ∙ sym w.of_member) ∙ ap (set row (member w.entry)) w.weight_is in
     let es : List Entry = more.first ∷ more.others in
-    let clean : All (λ f. weight_of (set row (member w.entry) (code (weight w.entry))) (member f) ≡ 0) es =
-    subst (λ r. All (λ f. weight_of r (member f) ≡ 0) es) set_is more.fresh in
+    let clean : AllByRecursion (λ f. weight_of (set row (member w.entry) (code (weight w.entry))) (member f) ≡ 0) es =
+    subst (λ r. AllByRecursion (λ f. weight_of r (member f) ≡ 0) es) set_is more.fresh in
     let at : member w.entry < length row = let o = w.of_member in omega arith in
     let both = All-weaker _ _ (apart row (member w.entry) (weight w.entry) at w.some) es clean in
     record {

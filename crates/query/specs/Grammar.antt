@@ -5,7 +5,7 @@
 --   Accepted lim line q       and is short enough
 -- Numbers are in decimal, with no zero in front. Assumes nothing.
 use Rattle.std.specs.Prelude.{ℕ, ◌<◌, ◌≤◌, ◌≢◌, List, [], ◌∷◌, ◌++◌, length, Some, decimal, slice_set}
-use Rattle.std.specs.List.{flat_map, AllByRecursion as All}
+use Rattle.std.specs.List.{flat_map, AllByRecursion}
 use Rattle.field.specs.declared.Element.{Element}
 use Rattle.query.specs.declared.items.Limits.{Limits}
 use Rattle.query.specs.declared.lines.Request.{Request}
@@ -37,10 +37,10 @@ InRange lim (weighted m w) = (m < lim.members) × (1 ≤ w) × (w < lim.size)
 -- each member is named once
 abbrev pub Apart : List Entry → Type 0
 Apart [] = Unit {0}
-Apart (e ∷ es) = All (λ f. member f ≢ member e) es × Apart es
+Apart (e ∷ es) = AllByRecursion (λ f. member f ≢ member e) es × Apart es
 
 pub record Named (lim : Limits) (es : List Entry) : Type 0 where
-  pub in_range : All (InRange lim) es
+  pub in_range : AllByRecursion (InRange lim) es
   pub apart : Apart es
 
 -- a row, with the weights of some entries at their members

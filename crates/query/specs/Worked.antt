@@ -1,6 +1,6 @@
 -- Faults worked by hand, for three members over a field of 65521 elements, each line with its refusal. Assumes nothing.
 use Rattle.std.specs.Prelude.{◌≡◌, ℕ, List, [], ◌∷◌, Err, codes}
-use Rattle.std.specs.List.{AllByRecursion as All}
+use Rattle.std.specs.List.{AllByRecursion}
 use Rattle.refusal.specs.declared.Refusal.{Refusal}
 use Rattle.refusal.specs.declared.Refusal.TheVariants.{UnexpectedByte, BadNumber, MemberRepeated}
 use Rattle.query.specs.declared.faults.LineFault.{LineFault}
@@ -33,4 +33,4 @@ abbrev pub Refused : Limits → Case → Type 0
 Refused lim c = (f : LineFault) × (reading lim c.line ≡ Err f) × (line_refusal f ≡ c.refusal)
 
 abbrev pub WorkedFaults : ℕ → Type 0
-WorkedFaults size = All (Refused (record { members = 3; size = size })) faults
+WorkedFaults size = AllByRecursion (Refused (record { members = 3; size = size })) faults

@@ -8,7 +8,7 @@
 --   Replayed M n t s h text answers log r h' answers' log'   what the replay of a text answers and leaves
 -- Rows and histories have the newest first. Assumes nothing.
 use Rattle.std.specs.Prelude.{◌≡◌, ℕ, ◌+◌, ◌-◌, ◌<◌, ◌≤◌, ◌≢◌, List, [], ◌∷◌, ◌++◌, length, Some, None, Option}
-use Rattle.std.specs.List.{AllByRecursion as All}
+use Rattle.std.specs.List.{AllByRecursion}
 use Rattle.refusal.specs.declared.Refusal.{Refusal}
 use Rattle.refusal.specs.declared.Refusal.TheVariants.{AnswersFull, LogFull, LineNotEnded, TextTooLong}
 use Rattle.refusal.specs.Numbered.{number}
@@ -25,7 +25,7 @@ use Rattle.replay_text.specs.declared.outcome.Stop.{Stop}
 
 -- 10 is the newline
 abbrev pub NoNewline : List ℕ → Type 0
-NoNewline bs = All (λ b. b ≢ 10) bs
+NoNewline bs = AllByRecursion (λ b. b ≢ 10) bs
 
 abbrev pub printed : ℕ → Option Reply → List ℕ
 printed k None = []
