@@ -4,12 +4,13 @@ use Rattle.std.proofs.Common.{◌≡◌, ℕ, suc, ◌<◌, ◌≢◌, List, [],
 use lib.ListN.{length-map, get_or-map}
 use Rattle.std.proofs.lemmas.List.{get_or-set_same, get_or-set_other}
 use Rattle.field.specs.Model.{FieldModel}
+use Rattle.field.specs.declared.Field.{Ghosts}
 use Rattle.echelon.specs.Reduced.{Pivoted, at, figured, Reduced}
 use Rattle.echelon.specs.Elimination.{cleared, leftover, pivot_cleared}
 use Rattle.echelon.specs.Rows.{Figured, minus}
 use Rattle.record.specs.Rows.{pivoted, SameRow, CodedRow}
 use Rattle.record.specs.Shapes.{all_pivoted}
-use Rattle.record.specs.Records.{rec_of, Sound}
+use Rattle.record.specs.Records.{rec_of}
 use Rattle.record.specs.Judged.{SamePivoted}
 use Rattle.record.specs.declared.rows.RecordRow.{RecordRow}
 use Rattle.record.specs.declared.record.Record.{Record}
@@ -23,10 +24,10 @@ at_row rows a = get_or-map pivoted rows a no_record_row
 pub rows-length : (rows : List RecordRow) → length (all_pivoted rows) ≡ length rows
 rows-length rows = length-map rows pivoted
 
-pub reduced_of : {F : Type 0} (M : FieldModel) (r : Record F) → Sound M r → Reduced M r.count (rec_of r)
-reduced_of M r sound = record {
-  weights_codes = λ a h. (sound a h).0;
-  figure_code = λ a h. (sound a h).1;
+pub reduced_of : {F : Type 0} {G : Ghosts F} (r : Record F G) → Reduced G.model r.count (rec_of r)
+reduced_of r = record {
+  weights_codes = λ a h. (r.coded a h).0;
+  figure_code = λ a h. (r.coded a h).1;
   pivot_below = r.pivots_below;
   pivots_rise = r.pivots_rise;
   own_pivot = r.own_pivot;
@@ -47,16 +48,16 @@ pub same_trans : {n : ℕ} {g h k : Figured} → SameRow n g h → SameRow n h k
 same_trans p q = record { rows = λ m b. p.rows m b ∙ q.rows m b; figures = p.figures ∙ q.figures }
 
 -- what is known of the row that a loop over the record's rows has come to
-pub record RowFacts {F : Type 0} (M : FieldModel) (r : Record F) (x : RecordRow) (a : ℕ) : Type 0 where
+pub record RowFacts {F : Type 0} {G : Ghosts F} (r : Record F G) (x : RecordRow) (a : ℕ) : Type 0 where
   pub below : a < length (rec_of r)
   pub is : at (rec_of r) a ≡ pivoted x
   pub pivot : x.pivot.0 < r.count
-  pub coded : CodedRow M r.count (figured (pivoted x))
+  pub coded : CodedRow G.model r.count (figured (pivoted x))
 
 pub facts_of :
-    {F : Type 0} (M : FieldModel) (r : Record F) (sl : List RecordRow) → sl ≡ vec_items r.rows → Sound M r
-    → (a : ℕ) → a < length sl → RowFacts M r (get_or sl a no_record_row) a
-facts_of M r sl e sound a h =
+    {F : Type 0} {G : Ghosts F} (r : Record F G) (sl : List RecordRow) → sl ≡ vec_items r.rows
+    → (a : ℕ) → a < length sl → RowFacts r (get_or sl a no_record_row) a
+facts_of {G = G} r sl e a h =
     let x = get_or sl a no_record_row in
     let below : a < length (rec_of r) = simp length-map (subst (λ (l : List RecordRow). a < length l) e h) in
     let is : at (rec_of r) a ≡ pivoted x = at_row (vec_items r.rows) a ∙ ap (λ l. pivoted (get_or l a no_record_row)) (sym e) in
@@ -64,7 +65,7 @@ facts_of M r sl e sound a h =
       below = below;
       is = is;
       pivot = subst (λ (p : Pivoted). p.pivot < r.count) is (r.pivots_below a below);
-      coded = subst (λ (p : Pivoted). CodedRow M r.count (figured p)) is (sound a below);
+      coded = subst (λ (p : Pivoted). CodedRow G.model r.count (figured p)) is (r.coded a below);
     }
 
 pub leftover-same :

@@ -3,11 +3,13 @@
 --   OwnPivot, LowestNamed       each row has 1 at its pivot, and 0 below it
 --   OtherPivots                 each row has 0 at the pivots of the others
 --   NoneAlone                   no row names its pivot alone
+--   AllCoded M n rec            weights and figures are elements
 -- Assumes nothing.
 use Rattle.std.specs.Prelude.{◌≡◌, ℕ, ◌<◌, ◌≢◌, List, map, length}
-use Rattle.echelon.specs.Reduced.{Pivoted, at, Alone}
+use Rattle.field.specs.Model.{FieldModel}
+use Rattle.echelon.specs.Reduced.{Pivoted, figured, at, Alone}
 use Rattle.record.specs.declared.rows.RecordRow.{RecordRow}
-use Rattle.record.specs.Rows.{pivoted}
+use Rattle.record.specs.Rows.{pivoted, CodedRow}
 
 abbrev pub all_pivoted : List RecordRow → List Pivoted
 all_pivoted rows = map pivoted rows
@@ -29,3 +31,6 @@ OtherPivots rec = (a b : ℕ) → (a < length rec) × (b < length rec) × (a ≢
 
 abbrev pub NoneAlone : ℕ → List Pivoted → Type 0
 NoneAlone n rec = (a : ℕ) → a < length rec → Alone n (at rec a).weights (at rec a).pivot → ⊥
+
+abbrev pub AllCoded : FieldModel → ℕ → List Pivoted → Type 0
+AllCoded M n rec = (a : ℕ) → a < length rec → CodedRow M n (figured (at rec a))

@@ -1,13 +1,14 @@
 // The record itself. What needs no field's model stands in its type.
 ghost use Rattle.std.specs.Prelude.{◌≤◌, vec_capacity};
-ghost use Rattle.record.specs.Shapes.{all_pivoted, PivotsBelow, PivotsRise, OwnPivot, LowestNamed, OtherPivots, NoneAlone};
+ghost use Rattle.record.specs.Shapes.{all_pivoted, PivotsBelow, PivotsRise, OwnPivot, LowestNamed, OtherPivots, NoneAlone, AllCoded};
 
 use crate::rows::RecordRow;
+use field::Field;
 use std::marker::PhantomData;
 
 // Rows by rising pivot, with room for as many as there are members.
 #[derive(Drop)]
-pub struct Record<F> {
+pub struct Record<F: Field> {
     count: usize,
     rows: Vec<RecordRow>,
     field: PhantomData<F>,
@@ -18,6 +19,7 @@ pub struct Record<F> {
     ghost lowest_named: { LowestNamed (all_pivoted rows.items) },
     ghost other_pivots: { OtherPivots (all_pivoted rows.items) },
     ghost none_alone: { NoneAlone count (all_pivoted rows.items) },
+    ghost coded: { AllCoded F.model count (all_pivoted rows.items) },
     ghost room: { count ≤ vec_capacity rows },
 }
 

@@ -2,7 +2,7 @@
 ghost use Rattle.std.specs.Prelude.{◌≡◌, length, Some, None, MatchResult};
 ghost use Rattle.field.specs.Sums.{weights_of};
 ghost use Rattle.record.specs.Checks.{RowCheck};
-ghost use Rattle.record.specs.Records.{rec_of, Sound};
+ghost use Rattle.record.specs.Records.{rec_of};
 ghost use Rattle.record.specs.Judged.{Judged, Admitted};
 
 use crate::judge::{Admission, Judgement, Standing};
@@ -21,7 +21,6 @@ impl<F: Field> Record<F> {
 
     // How a row stands to the record, in the sense of tables.
     pub fn judge(&self, weights: &[Element]) -> Result<Judgement, Refusal>
-        requires sound { Sound F.model self.now }
         ensures { MatchResult result (λ j. RowCheck F.model self.now.count weights.now None × Judged F.model self.now.count (rec_of self.now) (weights_of weights.now) j) (λ e. RowCheck F.model self.now.count weights.now (Some e)) }
     {
         check_row::<F>(weights, self.count)?;
@@ -35,9 +34,7 @@ impl<F: Field> Record<F> {
     // Takes a row with its figure into the record. Where that would pin a member, it is refused, and a row that is
     // fixed already changes nothing.
     pub fn admit(&mut self, weights: &[Element], figure: Element) -> Result<Admission, Refusal>
-        requires sound { Sound F.model self.old }
         ensures admitted { Admitted F.model self.old.count (rec_of self.old) weights.now figure.0 (rec_of self.new) result }
-        ensures sound { Sound F.model self.new }
         ensures count { self.new.count ≡ self.old.count }
     {
         check_row::<F>(weights, self.count)?;

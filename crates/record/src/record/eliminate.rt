@@ -5,7 +5,7 @@ ghost use Rattle.server.specs.Checks.{Lowest};
 ghost use Rattle.echelon.specs.Reduced.{at, figured};
 ghost use Rattle.echelon.specs.Elimination.{leftover, scaled};
 ghost use Rattle.record.specs.Rows.{figured_row, pivoted, SameRow, CodedRow};
-ghost use Rattle.record.specs.Records.{rec_of, Sound};
+ghost use Rattle.record.specs.Records.{rec_of};
 ghost use Rattle.record.specs.Judged.{given_row, AloneWith};
 ghost use Rattle.record.specs.Standings.{Stands};
 
@@ -29,7 +29,6 @@ fn with_pivot<F: Field>(left: &FiguredRow, n: usize) -> Option<RecordRow>
 impl<F: Field> Record<F> {
     // A row with its figure, less what the record rows take from it.
     pub(crate) fn leftover(&self, weights: &[Element], figure: Element) -> FiguredRow
-        requires sound { Sound F.model self.now }
         requires length { length weights.now ≡ self.now.count }
         requires coded { CodedRow F.model self.now.count (given_row weights.now figure.0) }
         ensures is { SameRow self.now.count (figured_row result) (leftover F.model (rec_of self.now) (given_row weights.now figure.0)) }
@@ -45,7 +44,6 @@ impl<F: Field> Record<F> {
 
     // The lowest member that stands alone once `fresh` has joined.
     pub(crate) fn lowest_alone(&self, fresh: &RecordRow) -> Option<Member>
-        requires sound { Sound F.model self.now }
         requires pivot { fresh.now.pivot.0 < self.now.count }
         requires coded { CodedRow F.model self.now.count (figured (pivoted fresh.now)) }
         requires own { weights_of fresh.now.row.weights fresh.now.pivot.0 ≡ 1 }
@@ -67,7 +65,6 @@ impl<F: Field> Record<F> {
 
     // What a row with its figure would do to the record.
     pub(crate) fn assess(&self, weights: &[Element], figure: Element) -> Standing
-        requires sound { Sound F.model self.now }
         requires length { length weights.now ≡ self.now.count }
         requires coded { CodedRow F.model self.now.count (given_row weights.now figure.0) }
         ensures { Stands F.model self.now.count (rec_of self.now) (given_row weights.now figure.0) result }

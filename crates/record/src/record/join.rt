@@ -4,7 +4,7 @@ ghost use Rattle.echelon.specs.Reduced.{at, figured, Reduced, Same};
 ghost use Rattle.echelon.specs.Elimination.{pivot_cleared, joined};
 ghost use Rattle.record.specs.Rows.{pivoted, figured_record_row, SameRow, CodedRow};
 ghost use Rattle.record.specs.Shapes.{all_pivoted, NoneAlone};
-ghost use Rattle.record.specs.Records.{rec_of, Sound};
+ghost use Rattle.record.specs.Records.{rec_of};
 ghost use Rattle.record.specs.Judged.{SamePivoted};
 
 use crate::record::Record;
@@ -46,7 +46,6 @@ impl<F: Field> Record<F> {
 
     // Puts a row in before row `k`, and clears its pivot from the others.
     pub(crate) fn join(&mut self, fresh: RecordRow, k: RowNumber)
-        requires sound { Sound F.model self.old }
         requires place { k.0 ≤ length (rec_of self.old) }
         requires pivot { fresh.pivot.0 < self.old.count }
         requires coded { CodedRow F.model self.old.count (figured_record_row fresh) }

@@ -1,7 +1,7 @@
 // A new record, and one made empty again.
 ghost use Rattle.std.specs.Prelude.{◌≡◌, []};
 ghost use Rattle.server.specs.Tables.{bounded};
-ghost use Rattle.record.specs.Records.{rec_of, Sound};
+ghost use Rattle.record.specs.Records.{rec_of};
 
 use crate::record::Record;
 use crate::room::Room;
@@ -26,7 +26,6 @@ impl<F: Field> Record<F> {
     pub fn clear(&mut self)
         ensures count { self.new.count ≡ self.old.count }
         ensures empty { rec_of self.new ≡ [] }
-        ensures sound { Sound F.model self.new }
     {
         self.rows.clear();
     }

@@ -5,7 +5,7 @@ ghost use Rattle.echelon.specs.Rows.{Fits};
 ghost use Rattle.echelon.specs.Reduced.{all_figured};
 ghost use Rattle.echelon.specs.Witness.{Free, base, direction, Leads, Witness};
 ghost use Rattle.record.specs.Checks.{WitnessCheck};
-ghost use Rattle.record.specs.Records.{rec_of, Sound};
+ghost use Rattle.record.specs.Records.{rec_of};
 
 use crate::record::Record;
 use crate::rows::minus;
@@ -15,7 +15,6 @@ use refusal::{Member, Refusal, Site};
 impl<F: Field> Record<F> {
     // The free member and the factor that a member and an element call for.
     fn lead(&self, member: Member, element: Element) -> (Member, Element)
-        requires sound { Sound F.model self.now }
         requires member { member.0 < self.now.count }
         requires element { element.0 < F.model.size }
         ensures leads { Leads F.model self.now.count (rec_of self.now) member.0 element.0 result.0.0 result.1.0 }
@@ -38,7 +37,6 @@ impl<F: Field> Record<F> {
 
     // Writes a table that fits the record, moved by `factor` along the direction of a free member.
     fn fill(&self, free: Member, factor: Element, out: &mut [Element])
-        requires sound { Sound F.model self.now }
         requires length { length out.old ≡ self.now.count }
         requires below { free.0 < self.now.count }
         requires free { Free (rec_of self.now) free.0 }
@@ -62,7 +60,6 @@ impl<F: Field> Record<F> {
         element: Element,
         out: &mut [Element],
     ) -> Result<(), Refusal>
-        requires sound { Sound F.model self.now }
         ensures { MatchResult result (λ _. WitnessCheck F.model self.now.count member.0 element.0 (length out.old) None × Witness F.model self.now.count (rec_of self.now) member.0 element.0 (weights_of out.new) × (weights_of out.new member.0 ≡ element.0) × Codes F.model self.now.count (weights_of out.new) × Fits F.model self.now.count (all_figured (rec_of self.now)) (weights_of out.new)) (λ e. WitnessCheck F.model self.now.count member.0 element.0 (length out.old) (Some e) × (out.new ≡ out.old)) }
     {
         if member.0 >= self.count {

@@ -11,24 +11,24 @@ use Rattle.record.proofs.record.Record.admit.Goals as goal
 pub returns-in_err-check_row : goal.returns-in_err-check_row
 returns-in_err-check_row g c =
     let p = err_from_is_err_and c.from_residual.result c.from_residual.ensures.1 in
-    rw (p.1, p.2) (record { admitted = bad_row _ c.in_err-check_row.ensures refl; sound = c.requires.sound; count = refl })
+    rw (p.1, p.2) (record { admitted = bad_row _ c.in_err-check_row.ensures refl; count = refl })
 
 pub returns-then-figure-size : goal.returns-then-figure-size
 returns-then-figure-size g c =
-    record { admitted = no_figure c.in_ok-check_row.ensures (omega arith) refl; sound = c.requires.sound; count = refl }
+    record { admitted = no_figure c.in_ok-check_row.ensures (omega arith) refl; count = refl }
 
 pub assess-requires : goal.assess-requires
 assess-requires g c =
     let M = g.F.Field.model in
     let passed = c.in_ok-check_row.ensures in
-    record { sound = c.requires.sound; length = row_length_lem M _ _ passed; coded = (row-codes M _ _ passed, omega arith) }
+    record { length = row_length_lem M _ _ passed; coded = (row-codes M _ _ passed, omega arith) }
 
 pub join-requires : goal.join-requires
 join-requires g c =
     let M = g.F.Field.model in
     let L = g.met.F.Field.laws in
     let r = c.args.self.now in
-    let R = reduced_of M r c.requires.sound in
+    let R = reduced_of r in
     let ws = c.args.weights.now in
     let f = c.args.figure.0 in
     let passed = c.in_ok-check_row.ensures in
@@ -38,7 +38,6 @@ join-requires g c =
     let facts = fresh_facts M r.count (rec_of r) (given_row ws f) x c.in-Fresh.ensures in
     let k = c.place_of-k.ensures in
     record {
-      sound = c.requires.sound;
       place = k.within;
       pivot = facts.left.below;
       coded = facts.coded;
@@ -51,21 +50,21 @@ returns-in-Fixed g c =
     let M = g.F.Field.model in
     let L = g.met.F.Field.laws in
     let r = c.args.self.now in
-    let R = reduced_of M r c.requires.sound in
+    let R = reduced_of r in
     let ws = c.args.weights.now in
     let f = c.args.figure.0 in
     let passed = c.in_ok-check_row.ensures in
     let figure : f < M.size = omega arith in
     let coded : CodedRow M r.count (given_row ws f) = (row-codes M _ _ passed, figure) in
     let fixes = fixed-row M L r.count (rec_of r) R (given_row ws f) coded _ c.in-Fixed.ensures in
-    record { admitted = kept passed figure fixes refl (kept-adds M L r.count (rec_of r) (given_row ws f) fixes); sound = c.requires.sound; count = refl }
+    record { admitted = kept passed figure fixes refl (kept-adds M L r.count (rec_of r) (given_row ws f) fixes); count = refl }
 
 pub returns-in-Pinning : goal.returns-in-Pinning
 returns-in-Pinning g c =
     let M = g.F.Field.model in
     let L = g.met.F.Field.laws in
     let r = c.args.self.now in
-    let R = reduced_of M r c.requires.sound in
+    let R = reduced_of r in
     let ws = c.args.weights.now in
     let f = c.args.figure.0 in
     let passed = c.in_ok-check_row.ensures in
@@ -73,7 +72,6 @@ returns-in-Pinning g c =
     let coded : CodedRow M r.count (given_row ws f) = (row-codes M _ _ passed, figure) in
     record {
       admitted = discloses passed figure _ (judged-pinning M L r.count (rec_of r) R ws coded.0 f figure _ c.in-Pinning.ensures) refl;
-      sound = c.requires.sound;
       count = refl;
     }
 
@@ -82,7 +80,7 @@ returns-in-Fresh g c =
     let M = g.F.Field.model in
     let L = g.met.F.Field.laws in
     let r = c.args.self.now in
-    let R = reduced_of M r c.requires.sound in
+    let R = reduced_of r in
     let ws = c.args.weights.now in
     let f = c.args.figure.0 in
     let passed = c.in_ok-check_row.ensures in
@@ -100,6 +98,5 @@ returns-in-Fresh g c =
           joined passed figure (judged-free M L r.count (rec_of r) R ws coded.0 f figure x c.in-Fresh.ensures)
           (after_fits M L r.count (rec_of r) R (given_row ws f) coded x facts _ k.within k.below k.above after same)
           (after_adds M L r.count (rec_of r) R (given_row ws f) coded x facts _ k.within k.below k.above after same);
-      sound = λ a h. (λ m b. R₁.weights_codes a h m (omega arith), R₁.figure_code a h);
       count = size;
     }

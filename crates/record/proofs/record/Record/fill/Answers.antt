@@ -21,7 +21,7 @@ loop-row-init g c =
     let M = g.F.Field.model in
     let L = g.met.F.Field.laws in
     let r = c.args.self.now in
-    let R = reduced_of M r c.requires.sound in
+    let R = reduced_of r in
     let out = c.loop-value.out in
     let j = c.args.free.0 in
     let t = c.args.factor in
@@ -44,14 +44,14 @@ loop-row-init g c =
 pub bounds-out-row : goal.bounds-out-row
 bounds-out-row g c =
     let r = c.args.self.now in
-    let here = facts_of g.F.Field.model r c.as_slice-row-items.result.now c.as_slice-row-items.ensures.value c.requires.sound c.loop-row.row-index c.loop-row-test.true in
+    let here = facts_of r c.as_slice-row-items.result.now c.as_slice-row-items.ensures.value c.loop-row.row-index c.loop-row-test.true in
     let below = here.pivot in
     omega (arith, c.loop-row.invariant.0)
 
 pub offset_bounds-out-row : goal.offset_bounds-out-row
 offset_bounds-out-row g c =
     let r = c.args.self.now in
-    let here = facts_of g.F.Field.model r c.as_slice-row-items.result.now c.as_slice-row-items.ensures.value c.requires.sound c.loop-row.row-index c.loop-row-test.true in
+    let here = facts_of r c.as_slice-row-items.result.now c.as_slice-row-items.ensures.value c.loop-row.row-index c.loop-row-test.true in
     let below = here.pivot in
     let few = r.members.1 in
     omega arith
@@ -61,14 +61,14 @@ loop-row-preserved g c =
     let M = g.F.Field.model in
     let L = g.met.F.Field.laws in
     let r = c.args.self.now in
-    let R = reduced_of M r c.requires.sound in
+    let R = reduced_of r in
     let out = c.loop-row.out in
     let a = c.loop-row.row-index in
     let j = c.args.free.0 in
     let t = c.args.factor in
     let sl = c.as_slice-row-items.result.now in
     let x = get_or sl a no_record_row in
-    let here = facts_of M r sl c.as_slice-row-items.ensures.value c.requires.sound a c.loop-row-test.true in
+    let here = facts_of r sl c.as_slice-row-items.ensures.value a c.loop-row-test.true in
     let pivot : (at (rec_of r) a).pivot ≡ x.pivot.0 = ap (λ p. p.pivot) here.is in
     let inside : x.pivot.0 < length out = let below = here.pivot in omega (arith, c.loop-row.invariant.0) in
     let value : c.add.result.0 ≡ target M L r.count (rec_of r) R t.0 j (at (rec_of r) a).pivot =
@@ -98,7 +98,7 @@ returns g c =
     let M = g.F.Field.model in
     let L = g.met.F.Field.laws in
     let r = c.args.self.now in
-    let R = reduced_of M r c.requires.sound in
+    let R = reduced_of r in
     let all : length (rec_of r) ≤ c.loop-row.row-index = simp length-map (omega (arith, c.as_slice-row-items.ensures.len)) in
     target_all M L r.count (rec_of r) R c.args.factor.0 c.args.free.0 (weights_of c.loop-row.out)
     (λ a h. c.loop-row.invariant.1 a (omega arith)) (λ m h free. c.loop-row.invariant.2 m (omega (arith, c.loop-row.invariant.0)) free)

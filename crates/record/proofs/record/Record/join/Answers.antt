@@ -22,7 +22,7 @@ clear_rows-requires g c =
       few = r.members.1;
       pivot = c.requires.pivot;
       by_coded = c.requires.coded;
-      coded = λ a h. c.requires.sound a (simp length-map (omega arith));
+      coded = λ a h. r.coded a (simp length-map (omega arith));
     }
 
 pub insert-requires : goal.insert-requires
@@ -69,6 +69,7 @@ invariant_of-self g c =
       own_pivot = R.own_pivot;
       lowest_named = λ a m h. R.lowest_named a m h.0 h.1;
       other_pivots = λ a b h. R.other_pivots a b h.0 h.1 h.2;
+      coded = λ a h. (λ m b. R.weights_codes a h m (omega arith), R.figure_code a h);
       none_alone = same_none_alone M r.count _ _ c.requires.reduced same c.requires.none_alone;
       room = omega (arith, c.insert.ensures.capacity, c.clear_rows.ensures.cap, r.room);
     }

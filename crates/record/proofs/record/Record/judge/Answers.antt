@@ -9,7 +9,6 @@ assess-requires g c =
     let M = g.F.Field.model in
     let passed = c.in_ok-check_row.ensures in
     record {
-      sound = c.requires.sound;
       length = row_length_lem M _ _ passed;
       coded = (row-codes M _ _ passed, zero-code M g.met.F.Field.laws);
     }
@@ -19,7 +18,7 @@ returns-in-Fixed g c =
     let M = g.F.Field.model in
     let r = c.args.self.now in
     let passed = c.in_ok-check_row.ensures in
-    (passed, judged-fixed M g.met.F.Field.laws r.count (rec_of r) (reduced_of M r c.requires.sound) c.args.weights.now (row-codes M _ _ passed) _ _ c.in-Fixed.ensures c.neg.ensures.is)
+    (passed, judged-fixed M g.met.F.Field.laws r.count (rec_of r) (reduced_of r) c.args.weights.now (row-codes M _ _ passed) _ _ c.in-Fixed.ensures c.neg.ensures.is)
 
 pub returns-in-Pinning : goal.returns-in-Pinning
 returns-in-Pinning g c =
@@ -27,7 +26,7 @@ returns-in-Pinning g c =
     let L = g.met.F.Field.laws in
     let r = c.args.self.now in
     let passed = c.in_ok-check_row.ensures in
-    (passed, judged-pinning M L r.count (rec_of r) (reduced_of M r c.requires.sound) c.args.weights.now (row-codes M _ _ passed) 0 (zero-code M L) _ c.in-Pinning.ensures)
+    (passed, judged-pinning M L r.count (rec_of r) (reduced_of r) c.args.weights.now (row-codes M _ _ passed) 0 (zero-code M L) _ c.in-Pinning.ensures)
 
 pub returns-in-Fresh : goal.returns-in-Fresh
 returns-in-Fresh g c =
@@ -35,4 +34,4 @@ returns-in-Fresh g c =
     let L = g.met.F.Field.laws in
     let r = c.args.self.now in
     let passed = c.in_ok-check_row.ensures in
-    (passed, judged-free M L r.count (rec_of r) (reduced_of M r c.requires.sound) c.args.weights.now (row-codes M _ _ passed) 0 (zero-code M L) _ c.in-Fresh.ensures)
+    (passed, judged-free M L r.count (rec_of r) (reduced_of r) c.args.weights.now (row-codes M _ _ passed) 0 (zero-code M L) _ c.in-Fresh.ensures)

@@ -16,7 +16,7 @@ unreachable-requires g c =
     let a = c.loop-row.row-index in
     let sl = c.as_slice-row-items.result.now in
     let x = get_or sl a no_record_row in
-    let here = facts_of M r sl c.as_slice-row-items.ensures.value c.requires.sound a c.loop-row-test.true in
+    let here = facts_of r sl c.as_slice-row-items.ensures.value a c.loop-row-test.true in
     let alone : Alone r.count (pivoted x).weights (pivoted x).pivot =
     (λ z. let one : ◌≡◌ {A = ℕ} 1 0 = sym (subst (λ (p : Pivoted). p.weights p.pivot ≡ 1) here.is (r.own_pivot a here.below)) ∙ z in omega arith, c.in_default.ensures) in
     r.none_alone a here.below (subst (λ (p : Pivoted). Alone r.count p.weights p.pivot) (sym here.is) alone)
@@ -28,7 +28,7 @@ returns-then-row-member g c =
     let a = c.loop-row.row-index in
     let sl = c.as_slice-row-items.result.now in
     let x = get_or sl a no_record_row in
-    let here = facts_of M r sl c.as_slice-row-items.ensures.value c.requires.sound a c.loop-row-test.true in
+    let here = facts_of r sl c.as_slice-row-items.ensures.value a c.loop-row-test.true in
     let is = here.is in
     let member : x.pivot.0 ≡ c.args.member.0 = c.if-row-member.true in
     let other = c.in-Some.ensures in
@@ -38,7 +38,7 @@ returns-then-row-member g c =
     c.mul-factor.ensures.is
     ∙ ap₂ M.times (c.minus.ensures.is ∙ ap (λ p. minus M p.figure c.args.element.0) (sym is)) (c.inv-share.ensures.is ∙ ap M.inverse (sym (weight j))) in
     let led =
-    leads-pivot M g.met.F.Field.laws r.count (rec_of r) (reduced_of M r c.requires.sound) a j c.args.member.0 c.args.element.0 c.mul-factor.result.0
+    leads-pivot M g.met.F.Field.laws r.count (rec_of r) (reduced_of r) a j c.args.member.0 c.args.element.0 c.mul-factor.result.0
     here.below (ap (λ p. p.pivot) is ∙ member) other.0 (λ z. other.1 (z ∙ sym member)) (λ z. other.2 (sym (weight j) ∙ z))
     (λ m b ne. weight m ∙ other.3 m b (λ z. ne (z ∙ member))) factor in
     record { leads = led.0; below = other.0; free = led.1; factor = c.mul-factor.ensures.within }
@@ -47,7 +47,7 @@ pub loop-row-preserved : goal.loop-row-preserved
 loop-row-preserved g c =
     let r = c.args.self.now in
     let a = c.loop-row.row-index in
-    let here = facts_of g.F.Field.model r c.as_slice-row-items.result.now c.as_slice-row-items.ensures.value c.requires.sound a c.loop-row-test.true in
+    let here = facts_of r c.as_slice-row-items.result.now c.as_slice-row-items.ensures.value a c.loop-row-test.true in
     below_more (λ b. (at (rec_of r) b).pivot ≢ c.args.member.0) a c.loop-row.invariant (λ z. c.if-row-member.false (ap (λ p. p.pivot) (sym here.is) ∙ z))
 
 pub returns : goal.returns

@@ -13,7 +13,7 @@ use Rattle.record.proofs.record.Record.leftover.Goals as goal
 pub clear-requires : goal.clear-requires
 clear-requires g c =
     let r = c.args.self.now in
-    let here = facts_of g.F.Field.model r c.as_slice-rows.result.now c.as_slice-rows.ensures.value c.requires.sound c.loop-by.by-index c.loop-by-test.true in
+    let here = facts_of r c.as_slice-rows.result.now c.as_slice-rows.ensures.value c.loop-by.by-index c.loop-by-test.true in
     record { few = r.members.1; pivot = here.pivot; coded = c.loop-by.invariant.1; by_coded = here.coded }
 
 pub loop-by-preserved : goal.loop-by-preserved
@@ -24,7 +24,7 @@ loop-by-preserved g c =
     let sl = c.as_slice-rows.result.now in
     let x = get_or sl a no_record_row in
     let start = figured_row c.of-left.result in
-    let here = facts_of M r sl c.as_slice-rows.ensures.value c.requires.sound a c.loop-by-test.true in
+    let here = facts_of r sl c.as_slice-rows.ensures.value a c.loop-by-test.true in
     let step : leftover M (take (a + 1) (rec_of r)) start ≡ cleared M (pivoted x) (leftover M (take a (rec_of r)) start) =
     ap (λ k. leftover M (take k (rec_of r)) start) (add-one a)
     ∙ leftover-next M (rec_of r) a here.below start

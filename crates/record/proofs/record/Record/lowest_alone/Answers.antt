@@ -12,7 +12,7 @@ use Rattle.record.proofs.record.Record.lowest_alone.Goals as goal
 pub clear-requires : goal.clear-requires
 clear-requires g c =
     let r = c.args.self.now in
-    let here = facts_of g.F.Field.model r c.as_slice-row-items.result.now c.as_slice-row-items.ensures.value c.requires.sound c.loop-row.row-index c.loop-row-test.true in
+    let here = facts_of r c.as_slice-row-items.result.now c.as_slice-row-items.ensures.value c.loop-row.row-index c.loop-row-test.true in
     record { few = r.members.1; pivot = c.requires.pivot; coded = here.coded; by_coded = c.requires.coded }
 
 pub returns-in_default : goal.returns-in_default
@@ -22,9 +22,9 @@ returns-in_default g c =
     let r = c.args.self.now in
     let a = c.loop-row.row-index in
     let e = pivoted c.args.fresh.now in
-    let R = reduced_of M r c.requires.sound in
+    let R = reduced_of r in
     let x = get_or c.as_slice-row-items.result.now a no_record_row in
-    let here = facts_of M r c.as_slice-row-items.result.now c.as_slice-row-items.ensures.value c.requires.sound a c.loop-row-test.true in
+    let here = facts_of r c.as_slice-row-items.result.now c.as_slice-row-items.ensures.value a c.loop-row-test.true in
     let found =
     alone-found M L r.count (rec_of r) R r.none_alone e c.requires.pivot c.requires.coded c.requires.own c.requires.others
     (figured_row c.clear.new.self) a (pivoted x) here.below here.is c.clear.ensures.is c.in_default.ensures in
@@ -38,9 +38,9 @@ loop-row-preserved g c =
     let r = c.args.self.now in
     let a = c.loop-row.row-index in
     let e = pivoted c.args.fresh.now in
-    let R = reduced_of M r c.requires.sound in
+    let R = reduced_of r in
     let x = get_or c.as_slice-row-items.result.now a no_record_row in
-    let here = facts_of M r c.as_slice-row-items.result.now c.as_slice-row-items.ensures.value c.requires.sound a c.loop-row-test.true in
+    let here = facts_of r c.as_slice-row-items.result.now c.as_slice-row-items.ensures.value a c.loop-row-test.true in
     let other = c.in-Some.ensures in
     below_more _ _ c.loop-row.invariant
     (alone_missed M L r.count (rec_of r) R r.none_alone e c.requires.pivot c.requires.coded c.requires.own c.requires.others
@@ -53,7 +53,7 @@ returns-in-Some-lowest_other g c =
     let e = pivoted c.args.fresh.now in
     let other = c.in-Some-lowest_other.ensures in
     let all : length (rec_of r) ≤ c.loop-row.row-index = simp length-map (omega (arith, c.as_slice-row-items.ensures.len)) in
-    none_is M g.met.F.Field.laws r.count (rec_of r) (reduced_of M r c.requires.sound) r.none_alone e c.requires.pivot c.requires.coded c.requires.own c.requires.others
+    none_is M g.met.F.Field.laws r.count (rec_of r) (reduced_of r) r.none_alone e c.requires.pivot c.requires.coded c.requires.own c.requires.others
     (λ b h. c.loop-row.invariant b (omega arith)) (not_alone _ e.weights _ _ other.0 other.1 other.2)
 
 pub returns-in-None : goal.returns-in-None
@@ -62,5 +62,5 @@ returns-in-None g c =
     let r = c.args.self.now in
     let e = pivoted c.args.fresh.now in
     let all : length (rec_of r) ≤ c.loop-row.row-index = simp length-map (omega (arith, c.as_slice-row-items.ensures.len)) in
-    fresh_is_lowest M g.met.F.Field.laws r.count (rec_of r) (reduced_of M r c.requires.sound) r.none_alone e c.requires.pivot c.requires.coded c.requires.own c.requires.others
+    fresh_is_lowest M g.met.F.Field.laws r.count (rec_of r) (reduced_of r) r.none_alone e c.requires.pivot c.requires.coded c.requires.own c.requires.others
     (λ b h. c.loop-row.invariant b (omega arith)) (λ z. let one : ◌≡◌ {A = ℕ} 1 0 = sym c.requires.own ∙ z in omega arith, c.in-None.ensures)

@@ -25,5 +25,5 @@ returns g c =
     let w = weights_of c.fill.new.out in
     let made : Witness M r.count (rec_of r) c.args.member.0 c.args.element.0 w =
     record { member = c.lead.result.0.0; factor = c.lead.result.1.0; leads = c.lead.ensures.leads; table = c.fill.ensures } in
-    let fits = witness-fits M g.met.F.Field.laws r.count (rec_of r) (reduced_of M r c.requires.sound) _ _ inside element w made in
+    let fits = witness-fits M g.met.F.Field.laws r.count (rec_of r) (reduced_of r) _ _ inside element w made in
     (accepted inside element c.if-out-self.false, made, fits.1, fits.0, fits.2)
