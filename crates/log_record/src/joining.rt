@@ -2,7 +2,7 @@
 ghost use Rattle.std.specs.Prelude.{◌≡◌, ◌<◌, List, ◌∷◌, Some, None, MatchResult, OnErr};
 ghost use Rattle.echelon.specs.Rows.{Figured};
 ghost use Rattle.record.specs.Checks.{RowCheck};
-ghost use Rattle.record.specs.Records.{rec_of, Sound};
+ghost use Rattle.record.specs.Records.{rec_of};
 ghost use Rattle.record.specs.Judged.{given_row};
 ghost use Rattle.log_record.specs.Joins.{JoinCheck, Recorded};
 
@@ -17,10 +17,8 @@ pub(crate) fn join_row<F: Field>(
     figure: Element,
     row: LogRow,
 ) -> Result<(), Refusal>
-    requires sound { Sound F.model held.old }
     requires checked { RowCheck F.model held.old.count weights.now None }
     requires figure { figure.0 < F.model.size }
-    ensures sound { Sound F.model held.new }
     ensures count { held.new.count ≡ held.old.count }
     ensures kept { OnErr result (rec_of held.new ≡ rec_of held.old) }
     ensures joins { (before : List Figured) → Recorded F.model held.old.count before (rec_of held.old) → MatchResult result (λ _. JoinCheck F.model held.old.count row before (given_row weights.now figure.0) None × Recorded F.model held.old.count (given_row weights.now figure.0 ∷ before) (rec_of held.new)) (λ e. JoinCheck F.model held.old.count row before (given_row weights.now figure.0) (Some e)) }

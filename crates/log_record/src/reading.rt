@@ -4,7 +4,7 @@ ghost use Rattle.server.specs.Checks.{Count};
 ghost use Rattle.server.specs.Tables.{bounded};
 ghost use Rattle.echelon.specs.Rows.{Figured};
 ghost use Rattle.echelon.specs.Reduced.{ReducedForm};
-ghost use Rattle.record.specs.Records.{rec_of, Sound};
+ghost use Rattle.record.specs.Records.{rec_of};
 ghost use Rattle.log_record.specs.Joins.{RowsJoin, LogRecord, Recorded};
 
 use crate::joining::join_row;
@@ -15,16 +15,14 @@ use refusal::{LogRow, Refusal};
 
 // A log as it was read: the record of its rows, or why it was refused. The record is then empty.
 #[derive(Drop)]
-pub struct ReadLog<F> {
+pub struct ReadLog<F: Field> {
     pub record: Record<F>,
     pub refusal: Option<Refusal>,
 }
 
 // Takes row after row of a log into an empty record.
 fn read_rows<F: Field>(held: &mut Record<F>, log: &[u8]) -> Result<(), Refusal>
-    requires sound { Sound F.model held.old }
     requires empty { rec_of held.old ≡ [] }
-    ensures sound { Sound F.model held.new }
     ensures count { held.new.count ≡ held.old.count }
     ensures joins { MatchResult result (λ _. (given : List Figured) × RowsJoin F.model held.old.count 0 [] (drop 2 log.now) None given × Recorded F.model held.old.count given (rec_of held.new)) (λ e. RowsJoin F.model held.old.count 0 [] (drop 2 log.now) (Some e) []) }
 {
@@ -43,10 +41,8 @@ fn read_rows<F: Field>(held: &mut Record<F>, log: &[u8]) -> Result<(), Refusal>
 
 // Header and rows of a log for a server of `n` members.
 fn read_log<F: Field>(held: &mut Record<F>, n: usize, log: &[u8]) -> Result<(), Refusal>
-    requires sound { Sound F.model held.old }
     requires empty { rec_of held.old ≡ [] }
     requires count { held.old.count ≡ bounded n }
-    ensures sound { Sound F.model held.new }
     ensures count { held.new.count ≡ bounded n }
     ensures log { MatchResult result (λ _. (given : List Figured) × LogRecord F.model n log.now None given × ReducedForm F.model n given (rec_of held.new)) (λ e. LogRecord F.model n log.now (Some e) []) }
 {
@@ -56,7 +52,6 @@ fn read_log<F: Field>(held: &mut Record<F>, n: usize, log: &[u8]) -> Result<(), 
 
 // Reads a log for a server of `n` members. Its rows join the record with the log's figures; no table is looked at.
 pub fn read_record<F: Field>(room: Room, n: usize, log: &[u8]) -> ReadLog<F>
-    ensures sound { Sound F.model result.record }
     ensures count { result.record.count ≡ bounded n }
     ensures log { (given : List Figured) × LogRecord F.model n log.now result.refusal given × ReducedForm F.model n given (rec_of result.record) }
     ensures empty { result.refusal ≢ None → rec_of result.record ≡ [] }

@@ -1,3 +1,4 @@
 pub mod Views
 pub mod Runs
 pub mod Resumes
+pub mod Granted

@@ -31,11 +31,6 @@ SameOpen n None (Some o) = ⊥
 SameOpen n (Some p) None = ⊥
 SameOpen n (Some p) (Some o) = (p.permit ≡ o.permit) × (take n p.weights ≡ o.weights)
 
-abbrev pub Granted : FieldModel → ℕ → List Pivoted → Option OpenRow → Type 0
-Granted M n rec None = Unit {0}
-Granted M n rec (Some p) =
-    RowCheck M n (take n p.weights) None × ((i : ℕ) → PinnedWith M n rec (weights_of (take n p.weights)) i → ⊥)
-
 pub record Sound {S V : Type 0} (M : FieldModel) (n : ℕ) (x : Session S V) : Type 0 where
   pub count : x.record.count ≡ n
   pub record_sound : records.Sound M x.record

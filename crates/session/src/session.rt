@@ -1,4 +1,8 @@
 // A session: a server, the record of what was answered, and the open row.
+ghost use Rattle.std.specs.Prelude.{◌≡◌, length};
+ghost use Rattle.record.specs.Records.{rec_of};
+ghost use Rattle.session.specs.Granted.{Granted, Granted-prop};
+
 use field::Element;
 use record::Record;
 use server::Server;
@@ -16,6 +20,8 @@ pub struct Session<S: Server> {
     record: Record<S::Over>,
     issued: u16,
     pending: Option<OpenRow>,
+    ghost counted: { «record».count ≡ length (S.table server) },
+    ghost granted: { Granted S.Over.Field.model (length (S.table server)) (rec_of «record») pending } by { Granted-prop S.Over.Field.model (length (S.table server)) (rec_of «record») pending },
 }
 
 mod begin;

@@ -17,7 +17,6 @@ pub returns-in-Pinning : goal.returns-in-Pinning
 returns-in-Pinning g c =
     let M = g.F.Field.model in
     record {
-      sound = c.requires.sound;
       count = refl;
       kept = refl;
       joins = λ before B.
@@ -29,7 +28,6 @@ pub returns-then-known-figure : goal.returns-then-known-figure
 returns-then-known-figure g c =
     let M = g.F.Field.model in
     record {
-      sound = c.requires.sound;
       count = refl;
       kept = refl;
       joins = λ before B.
@@ -41,7 +39,6 @@ pub returns-else-known-figure : goal.returns-else-known-figure
 returns-else-known-figure g c =
     let M = g.F.Field.model in
     record {
-      sound = c.requires.sound;
       count = refl;
       kept = tt;
       joins = λ before B.
@@ -65,7 +62,6 @@ returns-else-is_err g c =
     let here = (goal.at.returns-else-is_err g c).After-admit in
     let (_, fits, adds) = admitted M _ _ _ _ _ _ c.requires.checked c.requires.figure (judged-free g here) c.admit.ensures.admitted in
     record {
-      sound = c.admit.ensures.sound;
       count = c.admit.ensures.count;
       kept = tt;
       joins = λ before B.

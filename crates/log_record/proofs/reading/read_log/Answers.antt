@@ -10,7 +10,7 @@ use Rattle.log_record.proofs.reading.read_log.Goals as goal
 pub returns-in_err-read_header : goal.returns-in_err-read_header
 returns-in_err-read_header g c =
     let p = err_from_is_err_and c.from_residual.result c.from_residual.ensures.1 in
-    rw (p.1, p.2) (record { sound = c.requires.sound; count = c.requires.count; log = bad_header _ c.in_err-read_header.ensures })
+    rw (p.1, p.2) (record { count = c.requires.count; log = bad_header _ c.in_err-read_header.ensures })
 
 pub returns : goal.returns
 returns g c =
@@ -21,7 +21,6 @@ returns g c =
     let size : c.args.held.now.count ≡ n = c.requires.count ∙ header-count M n bytes header in
     let after = rec_of c.read_rows.new.held in
     record {
-      sound = c.read_rows.ensures.sound;
       count = c.read_rows.ensures.count ∙ c.requires.count;
       log =
           whole_log M n bytes after c.read_rows.result header

@@ -16,7 +16,6 @@ pub loop-at-init : goal.loop-at-init
 loop-at-init g c =
     let M = g.F.Field.model in
     let n = c.count-n.result in (
-      c.requires.sound,
       sym c.count-n.ensures,
       omega arith,
       ([], subst (Recorded M n []) (sym c.requires.empty) (nothing_yet M g.met.F.Field.laws n), λ r given all. all),
@@ -29,12 +28,11 @@ returns-in_err-entry g c =
     let inv = c.loop-at.invariant in
     let e = c.in_err-entry.field-0.0 in
     let bytes = c.args.log.now in
-    let all = inv.3.2 (Some e) [] (row-refused M n c.loop-at.row inv.3.0 bytes c.loop-at.at c.loop-at-test.true e c.in_err-entry.ensures) in
+    let all = inv.2.2 (Some e) [] (row-refused M n c.loop-at.row inv.2.0 bytes c.loop-at.at c.loop-at-test.true e c.in_err-entry.ensures) in
     let p = err_from_is_err_and c.from_residual.result c.from_residual.ensures.1 in
     rw (p.1, p.2)
     (record {
-      sound = inv.0;
-      count = inv.1 ∙ c.count-n.ensures;
+      count = inv.0 ∙ c.count-n.ensures;
       joins = subst (λ (m : ℕ). RowsJoin M m 0 [] (drop 2 bytes) (Some e) []) c.count-n.ensures all;
     })
 
@@ -50,7 +48,7 @@ join_row-requires g c =
     let long : n ≤ length ws = omega (arith, row_count M n _ _ row.reads.check) in
     let fit : (i : ℕ) → get_or bytes i 0 < 256 = λ i. (c.type_inv.log i).fits in
     let (checked, figure) = cut_checked M g.met.F.Field.laws n _ bytes fit c.loop-at.at ws c.in_ok-entry.entry.figure.0 c.in_ok-entry.entry.next row long in
-    record { sound = inv.0; checked = subst (λ (m : ℕ). RowCheck M m (take n ws) None) (sym inv.1) checked; figure = figure }
+    record { checked = subst (λ (m : ℕ). RowCheck M m (take n ws) None) (sym inv.0) checked; figure = figure }
 
 pub returns-in_err-join_row : goal.returns-in_err-join_row
 returns-in_err-join_row g c =
@@ -71,13 +69,12 @@ returns-in_err-join_row g c =
     let k = c.loop-at.row in
     let bad =
     subst (λ (m : ℕ). (before : List Figured) → Recorded M m before (rec_of c.loop-at.held) → JoinCheck M m (record { 0 = k }) before (given_row (take n ws) f) (Some e))
-    inv.1 c.in_err-join_row.ensures.joins in
-    let all = inv.3.2 (Some e) [] (row-kept_out M n k inv.3.0 bytes at c.loop-at-test.true _ f next reads e (bad inv.3.0 inv.3.1)) in
+    inv.0 c.in_err-join_row.ensures.joins in
+    let all = inv.2.2 (Some e) [] (row-kept_out M n k inv.2.0 bytes at c.loop-at-test.true _ f next reads e (bad inv.2.0 inv.2.1)) in
     let p = err_from_is_err_and c.from_residual-in_err-join_row.result c.from_residual-in_err-join_row.ensures.1 in
     rw (p.1, p.2)
     (record {
-      sound = c.join_row.ensures.sound;
-      count = c.join_row.ensures.count ∙ inv.1 ∙ c.count-n.ensures;
+      count = c.join_row.ensures.count ∙ inv.0 ∙ c.count-n.ensures;
       joins = subst (λ (m : ℕ). RowsJoin M m 0 [] (drop 2 bytes) (Some e) []) c.count-n.ensures all;
     })
 
@@ -100,11 +97,10 @@ loop-at-preserved g c =
     let G = given_row (take n ws) f in
     let joined =
     subst (λ (m : ℕ). (before : List Figured) → Recorded M m before (rec_of c.loop-at.held) → JoinCheck M m (record { 0 = k }) before G None × Recorded M m (G ∷ before) (rec_of c.join_row.new.held))
-    inv.1 c.in_ok-join_row.ensures.joins inv.3.0 inv.3.1 in (
-      c.join_row.ensures.sound,
-      c.join_row.ensures.count ∙ inv.1,
-      omega (arith, row.on, inv.2),
-      (G ∷ inv.3.0, joined.1, λ r given rest. inv.3.2 r given (row-joined M n k inv.3.0 bytes at c.loop-at-test.true _ f next reads row.on joined.0 r given rest)),
+    inv.0 c.in_ok-join_row.ensures.joins inv.2.0 inv.2.1 in (
+      c.join_row.ensures.count ∙ inv.0,
+      omega (arith, row.on, inv.1),
+      (G ∷ inv.2.0, joined.1, λ r given rest. inv.2.2 r given (row-joined M n k inv.2.0 bytes at c.loop-at-test.true _ f next reads row.on joined.0 r given rest)),
     )
 
 pub returns : goal.returns
@@ -113,10 +109,9 @@ returns g c =
     let n = c.count-n.result in
     let inv = c.loop-at.invariant in
     let bytes = c.args.log.now in
-    let before = inv.3.0 in
-    let all = inv.3.2 None before (rows_done M n c.loop-at.row before bytes c.loop-at.at c.loop-at-test.false) in
+    let before = inv.2.0 in
+    let all = inv.2.2 None before (rows_done M n c.loop-at.row before bytes c.loop-at.at c.loop-at-test.false) in
     record {
-      sound = inv.0;
-      count = inv.1 ∙ c.count-n.ensures;
-      joins = subst (λ (m : ℕ). (given : List Figured) × RowsJoin M m 0 [] (drop 2 bytes) None given × Recorded M m given (rec_of c.loop-at.held)) c.count-n.ensures (before, all, inv.3.1);
+      count = inv.0 ∙ c.count-n.ensures;
+      joins = subst (λ (m : ℕ). (given : List Figured) × RowsJoin M m 0 [] (drop 2 bytes) None given × Recorded M m given (rec_of c.loop-at.held)) c.count-n.ensures (before, all, inv.2.1);
     }
