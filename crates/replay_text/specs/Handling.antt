@@ -2,6 +2,8 @@
 --   LineDone M T x k line answers log x' answers' log' used   the line is handled by the law, printed and logged
 -- Assumes nothing.
 use Rattle.std.specs.Prelude.{ℕ, List, length, None, Ok, Err, Option, Result}
+use Rattle.field.specs.declared.Field as field
+use Rattle.server.specs.declared.Server as server
 use Rattle.field.specs.Model.{FieldModel}
 use Rattle.buffer.specs.Buffers.{Put}
 use Rattle.server.specs.Tables.{value_at}
@@ -27,7 +29,7 @@ Loggable M n room (Ok (Filled t)) = Unit {0}
 Loggable M n room (Err f) = Unit {0}
 
 abbrev pub LineDone :
-    {S V : Type 0} → FieldModel → List ℕ → Session S V → ℕ → List ℕ → List ℕ → List ℕ → Session S V → List ℕ → List ℕ → Used → Type 0
+    {S V : Type 0} {G : server.Ghosts S V} {H : field.Ghosts V} → FieldModel → List ℕ → Session S V G H → ℕ → List ℕ → List ℕ → List ℕ → Session S V G H → List ℕ → List ℕ → Used → Type 0
 LineDone M T x k line answers log x' answers' log' used =
     Leads M T x x'
     (λ s h h'.

@@ -1,6 +1,8 @@
 -- A line, by what it was read as: how the calls that it makes come under the law of a line. Assumes nothing.
 use Rattle.std.proofs.Common.{◌≡◌, ℕ, List, [], length, Some, None, Ok, Err, sym, ap, ◌∙◌}
 use Rattle.refusal.specs.declared.Member.{Member}
+use Rattle.field.specs.declared.Field as field
+use Rattle.server.specs.declared.Server as server
 use Rattle.field.specs.Model.{FieldModel}
 use Rattle.field.specs.declared.Element.{Element}
 use Rattle.server.specs.Tables.{value_at}
@@ -21,7 +23,7 @@ pub read_as :
     → reading (limits M n) line ≡ Ok q'
 read_as M line size is same = ap (λ k. reading (limits M k) line) (sym size) ∙ sym is ∙ ap Ok same
 
-module _ {S V : Type 0} (M : FieldModel) (T : List ℕ) (x x' : Session S V) (line : List ℕ) where
+module _ {S V : Type 0} {G : server.Ghosts S V} {H : field.Ghosts V} (M : FieldModel) (T : List ℕ) (x x' : Session S V G H) (line : List ℕ) where
   pub remark-line :
       reading (limits M (length T)) line ≡ Ok Remark → Leads M T x x (λ s h. Handled M (length T) (value_at T) s h line None [])
   remark-line is s h H = (h, remark is, H)

@@ -9,6 +9,8 @@
 use Rattle.std.specs.Prelude.{◌≡◌, ℕ, ◌≤◌, List, [], length, take, Some, None, Ok, Err, Option, Result}
 use Rattle.refusal.specs.declared.Member.{Member}
 use Rattle.refusal.specs.declared.Refusal.{Refusal}
+use Rattle.field.specs.declared.Field as field
+use Rattle.server.specs.declared.Server as server
 use Rattle.field.specs.Model.{FieldModel}
 use Rattle.field.specs.Sums.{weights_of}
 use Rattle.field.specs.declared.Element.{Element}
@@ -46,10 +48,10 @@ outcome_rows n (Ok (Filled t)) = []
 outcome_rows n (Err f) = []
 
 -- for every history that x stands for, x' stands for one that P tells of
-abbrev pub Leads : {S V : Type 0} → FieldModel → List ℕ → Session S V → Session S V → (Start → List Event → List Event → Type 0) → Type 0
+abbrev pub Leads : {S V : Type 0} {G : server.Ghosts S V} {H : field.Ghosts V} → FieldModel → List ℕ → Session S V G H → Session S V G H → (Start → List Event → List Event → Type 0) → Type 0
 Leads M T x x' P = (s : Start) (h : List Event) → Holds M T x s h → (h' : List Event) × P s h h' × Holds M T x' s h'
 
-abbrev pub CarriedOut : {S V : Type 0} → FieldModel → List ℕ → Session S V → List ℕ → Result Outcome RequestFault → Session S V → Type 0
+abbrev pub CarriedOut : {S V : Type 0} {G : server.Ghosts S V} {H : field.Ghosts V} → FieldModel → List ℕ → Session S V G H → List ℕ → Result Outcome RequestFault → Session S V G H → Type 0
 CarriedOut M T x line r x' =
     Leads M T x x' (λ s h. Handled M (length T) (value_at T) s h line (outcome_reply (length T) r) (outcome_rows (length T) r))
 

@@ -1,6 +1,8 @@
 -- A session that is resumed stands for the empty history after its log. Assumes nothing.
 use Rattle.std.proofs.Common.{◌≡◌, ℕ, ◌≢◌, List, [], length, Some, None, Option, sym, subst, arith}
 use Rattle.refusal.specs.declared.Refusal.{Refusal}
+use Rattle.field.specs.declared.Field as field
+use Rattle.server.specs.declared.Server as server
 use Rattle.field.specs.Model.{FieldModel, FieldLaws}
 use Rattle.server.specs.Checks.{Count}
 use Rattle.echelon.specs.Rows.{Figured}
@@ -19,7 +21,7 @@ use Rattle.session.specs.Resumes.{after_log, Resumes, Own}
 use Rattle.session.specs.declared.session.OpenRow.{OpenRow}
 use Rattle.session.specs.declared.session.Session.{Session}
 
-module _ {S V : Type 0} (M : FieldModel) (L : FieldLaws M) (T : List ℕ) (x : Session S V) (none_open : x.pending ≡ None) where
+module _ {S V : Type 0} {G : server.Ghosts S V} {H : field.Ghosts V} (M : FieldModel) (L : FieldLaws M) (T : List ℕ) (x : Session S V G H) (none_open : x.pending ≡ None) where
   open_is : SameOpen (length T) x.pending None
   open_is = subst (λ (o : Option OpenRow). SameOpen (length T) o None) (sym none_open) tt
 

@@ -1,6 +1,8 @@
 -- What the record's witness comes to in a session. Assumes nothing.
 use Rattle.std.proofs.Common.{◌≡◌, ℕ, ◌<◌, ◌≤◌, ◌⊎◌, List, length, Some, None, Ok, Err, Option, Result, sym, ◌∙◌, subst, inl, inr, arith, MatchResult}
 use Rattle.refusal.specs.declared.Refusal.{Refusal}
+use Rattle.field.specs.declared.Field as field
+use Rattle.server.specs.declared.Server as server
 use Rattle.field.specs.Model.{FieldModel, FieldLaws}
 use Rattle.field.specs.Sums.{Codes, weights_of}
 use Rattle.field.specs.declared.Element.{Element}
@@ -19,7 +21,7 @@ pub buffer-length : (M : FieldModel) (n i a l : ℕ) → WitnessCheck M n i a l 
 buffer-length M n i a l (accepted h k e) = e
 
 pub witnessed :
-    {S V U : Type 0} (M : FieldModel) (L : FieldLaws M) (T : List ℕ) (x : Session S V) (n i a : ℕ) (before after : List Element) (r : Result U Refusal)
+    {S V U : Type 0} {G : server.Ghosts S V} {H : field.Ghosts V} (M : FieldModel) (L : FieldLaws M) (T : List ℕ) (x : Session S V G H) (n i a : ℕ) (before after : List Element) (r : Result U Refusal)
     → n ≡ length T → length after ≡ length before
     → MatchResult r
     (λ z. WitnessCheck M n i a (length before) None × Witness M n (rec_of x.record) i a (weights_of after) × (weights_of after i ≡ a)

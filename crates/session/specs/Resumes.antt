@@ -7,6 +7,8 @@
 -- Assumes nothing.
 use Rattle.std.specs.Prelude.{◌≡◌, ℕ, List, [], length, Some, None, Option}
 use Rattle.refusal.specs.declared.Refusal.{Refusal}
+use Rattle.field.specs.declared.Field as field
+use Rattle.server.specs.declared.Server as server
 use Rattle.field.specs.Model.{FieldModel}
 use Rattle.field.specs.Sums.{Vector, Codes}
 use Rattle.echelon.specs.Rows.{Figured}
@@ -22,10 +24,10 @@ abbrev pub after_log : Option Refusal → List Figured → Start
 after_log None given = record { rows = given; permits_before = 0 }
 after_log (Some e) given = record { rows = []; permits_before = 65535 }
 
-abbrev pub Resumes : {S V : Type 0} → FieldModel → List ℕ → Session S V → List ℕ → Option Refusal → Type 0
+abbrev pub Resumes : {S V : Type 0} {G : server.Ghosts S V} {H : field.Ghosts V} → FieldModel → List ℕ → Session S V G H → List ℕ → Option Refusal → Type 0
 Resumes M T x bs r = (given : List Figured) × LogRecord M (length T) bs r given × Holds M T x (after_log r given) []
 
-abbrev pub Own : {S V : Type 0} → FieldModel → List ℕ → Session S V → List ℕ → Option Refusal → Type 0
+abbrev pub Own : {S V : Type 0} {G : server.Ghosts S V} {H : field.Ghosts V} → FieldModel → List ℕ → Session S V G H → List ℕ → Option Refusal → Type 0
 Own M T x bs r =
     (t : Vector) → Codes M (length T) t → (h : List Event) → Lawful M (length T) t new_session h → bs ≡ log_bytes M (length T) (answered h)
     → (r ≡ None) × Holds M T x (after_log None (answered h)) []

@@ -1,19 +1,15 @@
 -- A session in memory, and the histories that it stands for.
 --   SameOpen n p o          the open row in memory is the history's
---   Granted M n rec p       the open row passed its checks, and pins nobody with the record's rows
---   Sound M n x             the record is over n members and elements, and the open row was granted: what the type cannot say
 --   Holds M T x s h         the session x, over the table T, stands for the history h from the start s
 --   Steps M T x c r x'      for every history that x stands for, the reply r is due to the call c, and x' stands for the history with both added
 -- Assumes nothing.
 use Rattle.std.specs.Prelude.{◌≡◌, ℕ, List, ◌∷◌, length, take, Some, None, Ok, Err, Option, Result}
+use Rattle.field.specs.declared.Field as field
+use Rattle.server.specs.declared.Server as server
 use Rattle.field.specs.Model.{FieldModel}
-use Rattle.field.specs.Sums.{weights_of}
 use Rattle.server.specs.Tables.{value_at}
 use Rattle.echelon.specs.Rows.{rows_of, RowsCodes}
-use Rattle.echelon.specs.Reduced.{Pivoted, ReducedForm}
-use Rattle.record.specs.Checks.{RowCheck}
-use Rattle.record.specs.Judged.{PinnedWith}
-use Rattle.record.specs.Records as records
+use Rattle.echelon.specs.Reduced.{ReducedForm}
 use Rattle.record.specs.Records.{rec_of}
 use Rattle.history.specs.Events as events
 use Rattle.history.specs.Events.{Start, Event, Call, Reply, permits, gives, takes_back, fills, refused, issued, open_row, given}
@@ -31,12 +27,7 @@ SameOpen n None (Some o) = ⊥
 SameOpen n (Some p) None = ⊥
 SameOpen n (Some p) (Some o) = (p.permit ≡ o.permit) × (take n p.weights ≡ o.weights)
 
-pub record Sound {S V : Type 0} (M : FieldModel) (n : ℕ) (x : Session S V) : Type 0 where
-  pub count : x.record.count ≡ n
-  pub record_sound : records.Sound M x.record
-  pub granted : Granted M n (rec_of x.record) x.pending
-
-pub record Holds {S V : Type 0} (M : FieldModel) (T : List ℕ) (x : Session S V) (s : Start) (h : List Event) : Type 0 where
+pub record Holds {S V : Type 0} {G : server.Ghosts S V} {H : field.Ghosts V} (M : FieldModel) (T : List ℕ) (x : Session S V G H) (s : Start) (h : List Event) : Type 0 where
   pub sane : Sane M (length T) s
   pub lawful : Lawful M (length T) (value_at T) s h
   pub codes : RowsCodes M (length T) (rows_of (given s h))
@@ -44,7 +35,7 @@ pub record Holds {S V : Type 0} (M : FieldModel) (T : List ℕ) (x : Session S V
   pub issued_is : x.issued ≡ issued s h
   pub open_is : SameOpen (length T) x.pending (open_row h)
 
-abbrev pub Steps : {S V : Type 0} → FieldModel → List ℕ → Session S V → Call → Reply → Session S V → Type 0
+abbrev pub Steps : {S V : Type 0} {G : server.Ghosts S V} {H : field.Ghosts V} → FieldModel → List ℕ → Session S V G H → Call → Reply → Session S V G H → Type 0
 Steps M T x c r x' =
     (s : Start) (h : List Event) → Holds M T x s h
     → Due M (length T) (value_at T) s h c r × Holds M T x' s (record { call = c; reply = r } ∷ h)

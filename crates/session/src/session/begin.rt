@@ -2,7 +2,7 @@
 ghost use Rattle.std.specs.Prelude.{◌≡◌, [], length};
 ghost use Rattle.server.specs.Tables.{Table};
 ghost use Rattle.history.specs.Events.{new_session};
-ghost use Rattle.session.specs.Views.{Sound, Holds};
+ghost use Rattle.session.specs.Views.{Holds};
 
 use crate::session::Session;
 use record::{Record, Room};
@@ -12,7 +12,6 @@ impl<S: Server> Session<S> {
     // Begun new: an empty record, and no permit issued. It stands for the empty history.
     pub fn new(server: S, room: Room) -> Session<S>
         ensures server { result.server ≡ server }
-        ensures sound { Sound S.Over.Field.model (length (S.Server.table server)) result }
         ensures holds { Holds S.Over.Field.model (S.Server.table server) result new_session [] }
     {
         let count = server.count();
@@ -26,7 +25,6 @@ impl<S: Server> Session<S> {
 
     // How many members there are.
     pub fn count(&self) -> usize
-        requires sound { Sound S.Over.Field.model (length (S.Server.table self.now.server)) self.now }
         ensures counted { result ≡ self.now.record.count }
         ensures members { result ≡ length (S.Server.table self.now.server) }
         ensures lawful { Table S.Over.Field.model (S.Server.table self.now.server) }

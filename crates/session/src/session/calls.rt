@@ -3,7 +3,7 @@ ghost use Rattle.std.specs.Prelude.{◌≡◌, ℕ, ◌≤◌, length, take, Mat
 ghost use Rattle.field.specs.Sums.{weights_of};
 ghost use Rattle.server.specs.Tables.{codes};
 ghost use Rattle.history.specs.Events.{submits, answers, withdraws, witnesses};
-ghost use Rattle.session.specs.Views.{Sound, Steps, permit_reply, figure_reply, withdrawal_reply, witness_reply_lem};
+ghost use Rattle.session.specs.Views.{Steps, permit_reply, figure_reply, withdrawal_reply, witness_reply_lem};
 
 use crate::session::{OpenRow, Session};
 use field::Element;
@@ -25,8 +25,6 @@ fn padded(weights: &[Element]) -> [Element; 64]
 impl<S: Server> Session<S> {
     // Judges a row, and opens it under the next permit number.
     pub(crate) fn submit_row(&mut self, weights: &[Element]) -> Result<u16, Refusal>
-        requires sound { Sound S.Over.Field.model (length (S.Server.table self.old.server)) self.old }
-        ensures sound { Sound S.Over.Field.model (length (S.Server.table self.old.server)) self.new }
         ensures server { self.new.server ≡ self.old.server }
         ensures kept { MatchResult result (λ _. self.new.record ≡ self.old.record) (λ _. self.new ≡ self.old) }
         ensures law { Steps S.Over.Field.model (S.Server.table self.old.server) self.old (submits weights.now) (permit_reply result) self.new }
@@ -51,8 +49,6 @@ impl<S: Server> Session<S> {
 
     // Answers the open row where the number is its permit's, and takes it into the record.
     pub(crate) fn answer_number(&mut self, number: u16) -> Result<Element, Refusal>
-        requires sound { Sound S.Over.Field.model (length (S.Server.table self.old.server)) self.old }
-        ensures sound { Sound S.Over.Field.model (length (S.Server.table self.old.server)) self.new }
         ensures server { self.new.server ≡ self.old.server }
         ensures kept { MatchResult result (λ _. self.new.issued ≡ self.old.issued) (λ _. self.new ≡ self.old) }
         ensures law { Steps S.Over.Field.model (S.Server.table self.old.server) self.old (answers number) (figure_reply result) self.new }
@@ -74,8 +70,6 @@ impl<S: Server> Session<S> {
 
     // Forgets the open row where the number is its permit's.
     pub(crate) fn withdraw_number(&mut self, number: u16) -> Result<(), Refusal>
-        requires sound { Sound S.Over.Field.model (length (S.Server.table self.old.server)) self.old }
-        ensures sound { Sound S.Over.Field.model (length (S.Server.table self.old.server)) self.new }
         ensures server { self.new.server ≡ self.old.server }
         ensures kept { MatchResult result (λ _. (self.new.record ≡ self.old.record) × (self.new.issued ≡ self.old.issued)) (λ _. self.new ≡ self.old) }
         ensures law { Steps S.Over.Field.model (S.Server.table self.old.server) self.old (withdraws number) (withdrawal_reply result) self.new }

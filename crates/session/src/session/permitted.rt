@@ -2,7 +2,7 @@
 ghost use Rattle.std.specs.Prelude.{◌≡◌, true, false, length, IfOk, MatchResult};
 ghost use Rattle.server.specs.Tables.{codes};
 ghost use Rattle.history.specs.Events.{submits, answers, withdraws, witnesses};
-ghost use Rattle.session.specs.Views.{Sound, Steps, submit_reply, figure_reply, withdrawal_reply, witness_reply_lem};
+ghost use Rattle.session.specs.Views.{Steps, submit_reply, figure_reply, withdrawal_reply, witness_reply_lem};
 
 use crate::permit::Permit;
 use crate::session::Session;
@@ -13,8 +13,6 @@ use server::Server;
 impl<S: Server> Session<S> {
     // Judges a row. A granted row is open until its permit is answered or withdrawn.
     pub fn submit(&mut self, weights: &[Element]) -> Result<Permit, Refusal>
-        requires sound { Sound S.Over.Field.model (length (S.Server.table self.old.server)) self.old }
-        ensures sound { Sound S.Over.Field.model (length (S.Server.table self.old.server)) self.new }
         ensures server { self.new.server ≡ self.old.server }
         ensures unspent { IfOk result (λ p. p.spent ≡ false) }
         ensures kept { MatchResult result (λ _. self.new.record ≡ self.old.record) (λ _. self.new ≡ self.old) }
@@ -28,9 +26,7 @@ impl<S: Server> Session<S> {
 
     // Spends the open permit: answers the figure over the server, and the row joins the record.
     pub fn answer(&mut self, permit: &mut Permit) -> Result<Element, Refusal>
-        requires sound { Sound S.Over.Field.model (length (S.Server.table self.old.server)) self.old }
         requires unspent { permit.old.spent ≡ false }
-        ensures sound { Sound S.Over.Field.model (length (S.Server.table self.old.server)) self.new }
         ensures server { self.new.server ≡ self.old.server }
         ensures spent { permit.new.spent ≡ true }
         ensures number { permit.new.number ≡ permit.old.number }
@@ -42,9 +38,7 @@ impl<S: Server> Session<S> {
 
     // Spends the open permit: the row is forgotten.
     pub fn withdraw(&mut self, permit: &mut Permit) -> Result<(), Refusal>
-        requires sound { Sound S.Over.Field.model (length (S.Server.table self.old.server)) self.old }
         requires unspent { permit.old.spent ≡ false }
-        ensures sound { Sound S.Over.Field.model (length (S.Server.table self.old.server)) self.new }
         ensures server { self.new.server ≡ self.old.server }
         ensures spent { permit.new.spent ≡ true }
         ensures number { permit.new.number ≡ permit.old.number }
@@ -61,7 +55,6 @@ impl<S: Server> Session<S> {
         element: Element,
         out: &mut [Element],
     ) -> Result<(), Refusal>
-        requires sound { Sound S.Over.Field.model (length (S.Server.table self.now.server)) self.now }
         ensures kept { MatchResult result (λ _. length out.new ≡ length out.old) (λ _. out.new ≡ out.old) }
         ensures law { Steps S.Over.Field.model (S.Server.table self.now.server) self.now (witnesses member.0 element.0 (length out.old)) (witness_reply_lem result (codes out.new)) self.now }
     {

@@ -1,7 +1,7 @@
 // One call of a list, and its reply.
 ghost use Rattle.std.specs.Prelude.{◌≡◌, length};
 ghost use Rattle.history.specs.Events.{witnesses};
-ghost use Rattle.session.specs.Views.{Sound, Steps};
+ghost use Rattle.session.specs.Views.{Steps};
 ghost use Rattle.session.specs.Runs.{call_of, reply_of, ZeroPast};
 
 use crate::calls::{Call, Reply};
@@ -14,7 +14,6 @@ impl<S: Server> Session<S> {
     // Fills a buffer of its own, as long as the one that the call brings. A longer one than any table has is refused
     // as an empty one is.
     fn witness_reply(&self, member: Member, element: Element, buffer: usize) -> Reply
-        requires sound { Sound S.Over.Field.model (length (S.Server.table self.now.server)) self.now }
         ensures past { ZeroPast (length (S.Server.table self.now.server)) result }
         ensures law { Steps S.Over.Field.model (S.Server.table self.now.server) self.now (witnesses member.0 element.0 buffer) (reply_of (length (S.Server.table self.now.server)) result) self.now }
     {
@@ -28,8 +27,6 @@ impl<S: Server> Session<S> {
 
     // Makes one call.
     pub fn reply_to(&mut self, call: &Call) -> Reply
-        requires sound { Sound S.Over.Field.model (length (S.Server.table self.old.server)) self.old }
-        ensures sound { Sound S.Over.Field.model (length (S.Server.table self.old.server)) self.new }
         ensures server { self.new.server ≡ self.old.server }
         ensures past { ZeroPast (length (S.Server.table self.old.server)) result }
         ensures law { Steps S.Over.Field.model (S.Server.table self.old.server) self.old (call_of call.now) (reply_of (length (S.Server.table self.old.server)) result) self.new }

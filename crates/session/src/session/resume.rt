@@ -4,7 +4,6 @@ ghost use Rattle.echelon.specs.Rows.{Figured};
 ghost use Rattle.record.specs.Records.{rec_of};
 ghost use Rattle.log_record.specs.Joins.{log_bytes, LogRecord};
 ghost use Rattle.log_record.specs.Theorems.{PossibleAfterALog};
-ghost use Rattle.session.specs.Views.{Sound};
 ghost use Rattle.session.specs.Resumes.{after_log, Resumes, Own};
 
 use crate::session::Session;
@@ -34,7 +33,6 @@ impl<S: Server> Session<S> {
     // The rows of the log join the record with the log's figures, whatever the server's table, and permits begin at 1.
     pub fn resume(server: S, room: Room, log: &[u8]) -> Resumed<S>
         ensures server { result.session.server ≡ server }
-        ensures sound { Sound S.Over.Field.model (length (S.Server.table server)) result.session }
         ensures resumes { Resumes S.Over.Field.model (S.Server.table server) result.session log.now result.refusal }
         ensures empty { result.refusal ≢ None → rec_of result.session.record ≡ [] }
         ensures written { (given : List Figured) → LogRecord S.Over.Field.model (length (S.Server.table server)) log.now None given → log.now ≡ log_bytes S.Over.Field.model (length (S.Server.table server)) given }

@@ -8,7 +8,7 @@ use Rattle.history.proofs.Exact.{judging_is_exact_lem}
 use Rattle.history.proofs.Possible.{every_value_stays_possible_lem}
 use Rattle.history.proofs.Unseen.{values_are_not_seen_lem}
 use Rattle.history.proofs.OneReply.{one-reply_is_due}
-use Rattle.session.specs.Views.{Sound, Holds}
+use Rattle.session.specs.Views.{Holds}
 use Rattle.session.specs.Runs.{call_of, reply_of, history, ZeroPast, AllZeroPast}
 use Rattle.session.specs.declared.calls.Call.{Call}
 use Rattle.session.specs.declared.calls.Call.TheVariants.{Submit}
@@ -58,7 +58,7 @@ loop-call-preserved g c =
     let no_call : Call = Submit (record { ref_ptr = (0, 0); now = [] }) in
     let call = get_or calls i no_call in
     let before = history (length T₀) (take i calls) replies in
-    let stood : Holds M T x new_session before = subst (λ (l : List ℕ). Holds M l x new_session before) (sym tables) inv.4 in
+    let stood : Holds M T x new_session before = subst (λ (l : List ℕ). Holds M l x new_session before) (sym tables) inv.3 in
     let stands : Holds M T₀ x' new_session (record { call = call_of call; reply = reply_of (length T₀) r } ∷ before) =
     subst (λ (l : List ℕ). Holds M l x' new_session (record { call = call_of call; reply = reply_of (length l) r } ∷ before)) tables
     (c.reply_to-reply.ensures.law new_session before stood).1 in
@@ -70,10 +70,9 @@ loop-call-preserved g c =
       c.reply_to-reply.ensures.server ∙ same,
       c.push_reserved.ensures.len ∙ ap (λ k. k + 1) inv.1,
       omega (arith, inv.2, c.push_reserved.ensures.capacity),
-      subst (λ (l : List ℕ). Sound M (length l) x') tables c.reply_to-reply.ensures.sound,
       subst (Holds M T₀ x' new_session) (sym grown) stands,
       subst (AllZeroPast (length T₀)) (sym c.push_reserved.ensures.items)
-          (past_more (length T₀) replies r inv.5 (subst (λ (l : List ℕ). ZeroPast (length l) r) tables c.reply_to-reply.ensures.past)),
+          (past_more (length T₀) replies r inv.4 (subst (λ (l : List ℕ). ZeroPast (length l) r) tables c.reply_to-reply.ensures.past)),
     )
 
 pub returns : goal.returns
@@ -82,10 +81,10 @@ returns g c =
     let inv = c.loop-call.invariant in
     let T₀ = g.S.Server.table c.new-session.result.server in
     let whole : take c.loop-call.call-index c.args.calls.now ≡ c.args.calls.now = take_all _ _ c.loop-call-test.false in
-    let lawful = subst (λ (l : _). Lawful M (length T₀) (value_at T₀) new_session (history (length T₀) l (vec_items c.loop-call.replies))) whole inv.4.lawful in
+    let lawful = subst (λ (l : _). Lawful M (length T₀) (value_at T₀) new_session (history (length T₀) l (vec_items c.loop-call.replies))) whole inv.3.lawful in
     record {
       lawful = (omega (arith, inv.1, c.loop-call-test.false, c.loop-call.auto.call-index-end), subst (λ (s : _). Lawful M (length (g.S.Server.table s)) (value_at (g.S.Server.table s)) new_session (history (length (g.S.Server.table s)) c.args.calls.now (vec_items c.loop-call.replies))) c.new-session.ensures.server lawful);
-      past = subst (λ (s : _). AllZeroPast (length (g.S.Server.table s)) (vec_items c.loop-call.replies)) c.new-session.ensures.server inv.5;
+      past = subst (λ (s : _). AllZeroPast (length (g.S.Server.table s)) (vec_items c.loop-call.replies)) c.new-session.ensures.server inv.4;
       exact = judging_is_exact_lem;
       possible = every_value_stays_possible_lem;
       unseen = values_are_not_seen_lem;

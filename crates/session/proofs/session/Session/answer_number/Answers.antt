@@ -1,11 +1,11 @@
-use Rattle.std.proofs.Common.{◌≡◌, ℕ, ◌-◌, true, List, length, take, is_ok, Some, None, Option, sym, refl, ap, ◌∙◌, subst, arith}
+use Rattle.std.proofs.Common.{◌≡◌, ℕ, ◌-◌, true, List, length, take, is_ok, Some, Option, sym, refl, ap, ◌∙◌, subst, arith}
 use borrow.Author.Tests.{clash}
 use Rattle.field.specs.Sums.{sum, weights_of}
 use Rattle.field.specs.declared.Element.{Element}
 use Rattle.server.specs.Tables.{value_at}
 use Rattle.record.specs.Judged.{Admitted, Adds, given_row}
 use Rattle.record.specs.Records.{rec_of}
-use Rattle.session.specs.Views.{Granted}
+use Rattle.session.specs.Granted.{Granted}
 use Rattle.session.specs.declared.session.OpenRow.{OpenRow}
 use Rattle.session.proofs.Admitted.{admit_succeeds}
 use Rattle.session.proofs.Steps.{answer_refused-steps, answered-steps, other_permit}
@@ -16,7 +16,6 @@ pub returns-in_default : goal.returns-in_default
 returns-in_default g c =
     let x = c.args.self.now in
     record {
-      sound = c.requires.sound;
       server = refl;
       kept = refl;
       law =
@@ -28,7 +27,6 @@ pub returns-then-row-number : goal.returns-then-row-number
 returns-then-row-number g c =
     let x = c.args.self.now in
     record {
-      sound = c.requires.sound;
       server = refl;
       kept = refl;
       law =
@@ -40,11 +38,11 @@ returns-then-row-number g c =
 granted : (g : _) (c : After-admit g) → Granted g.S.Over.Field.model (length (g.S.Server.table c.args.self.now.server)) (rec_of c.args.self.now.record) (Some c.in-Some.row)
 granted g c =
     subst (λ (o : Option OpenRow). Granted g.S.Over.Field.model (length (g.S.Server.table c.args.self.now.server)) (rec_of c.args.self.now.record) o) c.in-Some.is
-    c.requires.sound.granted
+    c.args.self.now.granted
 
 cut : (g : _) (c : After-admit g) → take (c.count.result - 0) c.in-Some.row.weights ≡ take (length (g.S.Server.table c.args.self.now.server)) c.in-Some.row.weights
 cut g c =
-    let size : c.count.result - 0 ≡ length (g.S.Server.table c.args.self.now.server) = omega (arith, c.count.ensures, c.requires.sound.count) in
+    let size : c.count.result - 0 ≡ length (g.S.Server.table c.args.self.now.server) = omega (arith, c.count.ensures, c.args.self.now.counted) in
     ap (λ k. take k c.in-Some.row.weights) size
 
 went_in :
@@ -58,7 +56,7 @@ went_in g c =
     let T = g.S.Server.table x.server in
     let row = granted g c in
     let admitted =
-    subst (λ (n : ℕ). Admitted M n (rec_of x.record) (take (length T) c.in-Some.row.weights) c.row_sum-figure.result.0 (rec_of c.admit.new.self) c.admit.result) c.requires.sound.count
+    subst (λ (n : ℕ). Admitted M n (rec_of x.record) (take (length T) c.in-Some.row.weights) c.row_sum-figure.result.0 (rec_of c.admit.new.self) c.admit.result) c.args.self.now.counted
     (subst (λ (ws : List Element). Admitted M x.record.count (rec_of x.record) ws c.row_sum-figure.result.0 (rec_of c.admit.new.self) c.admit.result) (cut g c)
     c.admit.ensures.admitted) in
     admit_succeeds M (length T) (rec_of x.record) (take (length T) c.in-Some.row.weights) c.row_sum-figure.result.0 (rec_of c.admit.new.self) c.admit.result
@@ -78,10 +76,9 @@ returns g c =
     let figure : c.row_sum-figure.result.0 ≡ sum M (length T) (weights_of (take (length T) c.in-Some.row.weights)) (value_at T) =
     c.row_sum-figure.ensures.is ∙ ap (λ l. sum M (length T) (weights_of l) (value_at T)) (cut g here) in
     record {
-      sound = record { count = c.admit.ensures.count ∙ c.requires.sound.count; record_sound = c.admit.ensures.sound; granted = tt };
       server = refl;
       kept = refl;
       law =
-          answered-steps M g.met.S.Over.Field.laws T x (record { server = x.server; «record» = c.admit.new.self; issued = x.issued; pending = None }) c.in-Some.row
+          answered-steps M g.met.S.Over.Field.laws T x _ c.in-Some.row
           c.args.number c.row_sum-figure.result.0 c.if-row-number.false c.in-Some.is (granted g here).0 figure (went_in g here).1 refl refl;
     }

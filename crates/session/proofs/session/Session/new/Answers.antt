@@ -1,7 +1,6 @@
-use Rattle.std.proofs.Common.{◌≡◌, ℕ, ◌<◌, List, [], length, sym, refl, ap, ◌∙◌, subst, arith}
+use Rattle.std.proofs.Common.{◌≡◌, [], length, sym, refl, ap, ◌∙◌, subst}
 use Rattle.server.specs.Tables.{bounded}
-use Rattle.echelon.specs.Reduced.{Pivoted, figured, at, ReducedForm}
-use Rattle.record.specs.Rows.{CodedRow}
+use Rattle.echelon.specs.Reduced.{ReducedForm}
 use Rattle.record.specs.Records.{rec_of}
 use Rattle.history.specs.Law.{begins}
 use Rattle.history.proofs.Facts.{new_sane}
@@ -19,12 +18,6 @@ returns g c =
     c.new.ensures.count ∙ ap bounded c.count-count.ensures.is ∙ table-count M T c.count-count.ensures.lawful in
     record {
       server = refl;
-      sound = record {
-        count = count;
-        record_sound =
-            subst (λ (rec : List Pivoted). (a : ℕ) → a < length rec → CodedRow M c.new.result.count (figured (at rec a))) (sym none) (λ a h. absurd (omega arith));
-        granted = tt;
-      };
       holds = record {
         sane = new_sane M L (length T);
         lawful = begins;

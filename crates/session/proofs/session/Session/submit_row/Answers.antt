@@ -11,12 +11,12 @@ use Rattle.record.proofs.Verdict.{row_length_lem}
 use Rattle.session.proofs.Admitted.{pinned_lowest}
 use Rattle.session.proofs.Steps.{submit_open_steps, submit_spent_steps, submit_bad_steps, submit_disclosing_steps, granted-steps, judged-free_of}
 use Rattle.session.proofs.session.Session.submit_row.Goals as goal
+use Rattle.session.proofs.session.Session.submit_row.Goals.{After-padded}
 
 pub returns-then-is_some : goal.returns-then-is_some
 returns-then-is_some g c =
     let x = c.args.self.now in
     record {
-      sound = c.requires.sound;
       server = refl;
       kept = refl;
       law =
@@ -28,7 +28,6 @@ pub returns-then-self : goal.returns-then-self
 returns-then-self g c =
     let x = c.args.self.now in
     record {
-      sound = c.requires.sound;
       server = refl;
       kept = refl;
       law =
@@ -44,11 +43,10 @@ returns-in_err-i g c =
     let ws = c.args.weights.now in
     let e = c.in_err-i.field-0.0 in
     let left : x.issued < 65535 = let ne = c.if-self.false in omega arith in
-    let fails : RowCheck M (length T) ws (Some e) = subst (λ (n : ℕ). RowCheck M n ws (Some e)) c.requires.sound.count c.in_err-i.ensures in
+    let fails : RowCheck M (length T) ws (Some e) = subst (λ (n : ℕ). RowCheck M n ws (Some e)) x.counted c.in_err-i.ensures in
     let p = err_from_is_err_and c.from_residual.result c.from_residual.ensures.1 in
     rw (p.1, p.2)
     (record {
-      sound = c.requires.sound;
       server = refl;
       kept = refl;
       law = submit_bad_steps M g.met.S.Over.Field.laws T x ws (sym c.is_some.ensures ∙ c.if-is_some.false) left e fails;
@@ -62,12 +60,11 @@ returns-in-Pinning g c =
     let ws = c.args.weights.now in
     let left : x.issued < 65535 = let ne = c.if-self.false in omega arith in
     let judged = c.in_ok-i.ensures in
-    let passed : RowCheck M (length T) ws None = subst (λ (n : ℕ). RowCheck M n ws None) c.requires.sound.count judged.0 in
+    let passed : RowCheck M (length T) ws None = subst (λ (n : ℕ). RowCheck M n ws None) x.counted judged.0 in
     let low : Lowest (PinnedWith M (length T) (rec_of x.record) (weights_of ws)) c.in-Pinning.i.0 =
-    subst (λ (n : ℕ). Lowest (PinnedWith M n (rec_of x.record) (weights_of ws)) c.in-Pinning.i.0) c.requires.sound.count
+    subst (λ (n : ℕ). Lowest (PinnedWith M n (rec_of x.record) (weights_of ws)) c.in-Pinning.i.0) x.counted
     (pinned_lowest M _ _ _ c.in-Pinning.i (subst (Judged M _ _ _) c.in-Pinning.is judged.1)) in
     record {
-      sound = c.requires.sound;
       server = refl;
       kept = refl;
       law =
@@ -81,6 +78,43 @@ padded-requires g c =
     let size = row_length_lem g.S.Over.Field.model _ _ c.in_ok-i.ensures.0 in
     omega arith
 
+-- what is known of a row that was judged free
+passed_row :
+    (g : _) (c : After-padded g)
+    → RowCheck g.S.Over.Field.model (length (g.S.Server.table c.args.self.now.server)) c.args.weights.now None
+passed_row g c =
+    subst (λ (n : ℕ). RowCheck g.S.Over.Field.model n c.args.weights.now None) c.args.self.now.counted c.in_ok-i.ensures.0
+
+free_row :
+    (g : _) (c : After-padded g) (i : ℕ)
+    → PinnedWith g.S.Over.Field.model (length (g.S.Server.table c.args.self.now.server)) (rec_of c.args.self.now.record) (weights_of c.args.weights.now) i → ⊥
+free_row g c =
+    let M = g.S.Over.Field.model in
+    let x = c.args.self.now in
+    let ws = c.args.weights.now in
+    subst (λ (n : ℕ). (i : ℕ) → PinnedWith M n (rec_of x.record) (weights_of ws) i → ⊥) x.counted
+    (judged-free_of M g.met.S.Over.Field.laws _ _ (reduced_of x.record) x.record.none_alone (weights_of ws) c.in_ok-i.field-0 c.in_ok-i.ensures.1 c.in_default.not-Pinning)
+
+cut_row : (g : _) (c : After-padded g) → take (length (g.S.Server.table c.args.self.now.server)) c.padded.result ≡ c.args.weights.now
+cut_row g c =
+    let T = g.S.Server.table c.args.self.now.server in
+    ap (λ k. take k c.padded.result) (sym (row_length_lem g.S.Over.Field.model (length T) c.args.weights.now (passed_row g c))) ∙ c.padded.ensures.front
+
+pub invariant_of-self : goal.invariant_of-self
+invariant_of-self g c =
+    let M = g.S.Over.Field.model in
+    let x = c.args.self.now in
+    let T = g.S.Server.table x.server in
+    let here = (goal.at.invariant_of-self g c).After-padded in
+    let cut = sym (cut_row g here) in
+    record {
+      counted = x.counted;
+      granted = (
+        subst (λ (l : List Element). RowCheck M (length T) l None) cut (passed_row g here),
+        subst (λ (l : List Element). (i : ℕ) → PinnedWith M (length T) (rec_of x.record) (weights_of l) i → ⊥) cut (free_row g here),
+      );
+    }
+
 pub returns : goal.returns
 returns g c =
     let M = g.S.Over.Field.model in
@@ -89,31 +123,11 @@ returns g c =
     let T = g.S.Server.table x.server in
     let ws = c.args.weights.now in
     let left : x.issued < 65535 = let ne = c.if-self.false in omega arith in
-    let judged = c.in_ok-i.ensures in
-    let passed : RowCheck M (length T) ws None = subst (λ (n : ℕ). RowCheck M n ws None) c.requires.sound.count judged.0 in
-    let free : (i : ℕ) → PinnedWith M (length T) (rec_of x.record) (weights_of ws) i → ⊥ =
-    subst (λ (n : ℕ). (i : ℕ) → PinnedWith M n (rec_of x.record) (weights_of ws) i → ⊥) c.requires.sound.count
-    (judged-free_of M L _ _ (reduced_of M x.record c.requires.sound.record_sound) x.record.none_alone (weights_of ws) c.in_ok-i.field-0 judged.1 c.in_default.not-Pinning) in
-    let cut : take (length T) c.padded.result ≡ ws =
-    ap (λ k. take k c.padded.result) (sym (row_length_lem M (length T) ws passed)) ∙ c.padded.ensures.front in
+    let here = (goal.at.returns g c).After-padded in
     record {
-      sound = record {
-        count = c.requires.sound.count;
-        record_sound = c.requires.sound.record_sound;
-        granted = (
-          subst (λ (l : List Element). RowCheck M (length T) l None) (sym cut) passed,
-          subst (λ (l : List Element). (i : ℕ) → PinnedWith M (length T) (rec_of x.record) (weights_of l) i → ⊥) (sym cut) free,
-        );
-      };
       server = refl;
       kept = refl;
       law =
-          granted-steps M L T x ws (sym c.is_some.ensures ∙ c.if-is_some.false) left
-          (record {
-            server = x.server;
-            «record» = x.record;
-            issued = x.issued + 1;
-            pending = Some (record { permit = x.issued + 1; weights = c.padded.result });
-          })
-          (record { permit = x.issued + 1; weights = c.padded.result }) passed free refl refl refl refl cut;
+          granted-steps M L T x ws (sym c.is_some.ensures ∙ c.if-is_some.false) left _
+          (record { permit = x.issued + 1; weights = c.padded.result }) (passed_row g here) (free_row g here) refl refl refl refl (cut_row g here);
     }

@@ -1,4 +1,4 @@
-use Rattle.std.proofs.Common.{None, refl}
+use Rattle.std.proofs.Common.{refl}
 use Rattle.session.proofs.Steps.{withdrawal_refused-steps, withdrawn-steps, other_permit}
 use Rattle.session.proofs.session.Session.withdraw_number.Goals as goal
 
@@ -6,7 +6,6 @@ pub returns-in_default : goal.returns-in_default
 returns-in_default g c =
     let x = c.args.self.now in
     record {
-      sound = c.requires.sound;
       server = refl;
       kept = refl;
       law =
@@ -18,7 +17,6 @@ pub returns-then-row-number : goal.returns-then-row-number
 returns-then-row-number g c =
     let x = c.args.self.now in
     record {
-      sound = c.requires.sound;
       server = refl;
       kept = refl;
       law =
@@ -30,11 +28,9 @@ pub returns : goal.returns
 returns g c =
     let x = c.args.self.now in
     record {
-      sound = record { count = c.requires.sound.count; record_sound = c.requires.sound.record_sound; granted = tt };
       server = refl;
       kept = (refl, refl);
       law =
           withdrawn-steps g.S.Over.Field.model g.met.S.Over.Field.laws (g.S.Server.table x.server) x
-          (record { server = x.server; «record» = x.record; issued = x.issued; pending = None }) c.in-Some.row
-          c.args.number c.if-row-number.false c.in-Some.is refl refl refl;
+          _ c.in-Some.row c.args.number c.if-row-number.false c.in-Some.is refl refl refl;
     }

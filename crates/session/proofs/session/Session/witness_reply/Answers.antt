@@ -43,11 +43,11 @@ returns-in-Ok g c =
     let passed : WitnessCheck M x.record.count i a own None = subst (λ (l : ℕ). WitnessCheck M x.record.count i a l None) (part _ own (own-few g here)) facts.0 in
     let counted : own ≡ x.record.count = buffer-length M _ i a own passed in
     let brought : WitnessCheck M (length T) i a c.args.buffer None =
-    subst (λ (n : ℕ). WitnessCheck M n i a c.args.buffer None) c.requires.sound.count
+    subst (λ (n : ℕ). WitnessCheck M n i a c.args.buffer None) c.args.self.now.counted
     (own-check M x.record.count i a own c.args.buffer None members.0 members.1 (own-buffer g here) passed) in
     let made : Witness M (length T) (rec_of x.record) i a (weights_of c.witness.new.out) =
-    subst (λ (n : ℕ). Witness M n (rec_of x.record) i a (weights_of c.witness.new.out)) c.requires.sound.count facts.1 in
-    let long : length c.witness.new.out ≡ length T = c.witness.auto.out ∙ part _ own (own-few g here) ∙ counted ∙ c.requires.sound.count in
+    subst (λ (n : ℕ). Witness M n (rec_of x.record) i a (weights_of c.witness.new.out)) c.args.self.now.counted facts.1 in
+    let long : length c.witness.new.out ≡ length T = c.witness.auto.out ∙ part _ own (own-few g here) ∙ counted ∙ c.args.self.now.counted in
     record {
       past = zero_past c.witness.new.out (length T) (own - 0) long;
       law = subst (λ (ws : List Element). Steps M T x (witnesses i a c.args.buffer) (fills (codes ws)) x) (sym (take_at c.witness.new.out _ (length T) long)) (witness_filled_steps M L T x i a c.args.buffer c.witness.new.out brought long made);
@@ -67,6 +67,6 @@ returns-in-Err g c =
     let fails : WitnessCheck M x.record.count i a own (Some e) =
     subst (λ (l : ℕ). WitnessCheck M x.record.count i a l (Some e)) (part _ own (own-few g here)) c.in-Err.ensures.0 in
     let brought : WitnessCheck M (length T) i a c.args.buffer (Some e) =
-    subst (λ (n : ℕ). WitnessCheck M n i a c.args.buffer (Some e)) c.requires.sound.count
+    subst (λ (n : ℕ). WitnessCheck M n i a c.args.buffer (Some e)) c.args.self.now.counted
     (own-check M x.record.count i a own c.args.buffer (Some e) members.0 members.1 (own-buffer g here) fails) in
     record { past = tt; law = witness-refused-steps M g.met.S.Over.Field.laws T x i a c.args.buffer e brought }
