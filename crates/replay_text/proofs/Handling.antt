@@ -23,7 +23,7 @@ brief_fits k None small short = omega arith
 brief_fits k (Some r) small short = lines_fit 392 (omega arith) k r small short
 
 module _
-    {S V : Type 0} {G : server.Ghosts S V} {H : field.Ghosts V} (M : FieldModel) (L : FieldLaws M) (T : List ℕ) (table : Table M T) (x : Session S V G H) (s : Start) (h : List Event)
+    {S V : Type 0} {GS : server.Ghosts S V} {GV : field.Ghosts V} (M : FieldModel) (L : FieldLaws M) (T : List ℕ) (table : Table M T) (x : Session S V GS GV) (s : Start) (h : List Event)
     (H : Holds M T x s h) (line : List ℕ) where
   pub line-fits :
       (o : Option Reply) (rows : List Figured) (h' : List Event) → Handled M (length T) (value_at T) s h line o rows h'

@@ -77,7 +77,7 @@ part_back xs a ys k within same fits =
     let front = length-take-le a xs within in omega (arith, all, part, front, same, fits)
 
 -- what is known before a line, for a history h that the session began with
-pub record Progress {S V : Type 0} {G : server.Ghosts S V} {H : field.Ghosts V} (M : FieldModel) (T : List ℕ) (x : Session S V G H) (text answers₀ log₀ answers log : List ℕ) (done : Replay) (at : ℕ) (s : Start) (h : List Event) : Type 0 where
+pub record Progress {S V : Type 0} {GS : server.Ghosts S V} {GV : field.Ghosts V} (M : FieldModel) (T : List ℕ) (x : Session S V GS GV) (text answers₀ log₀ answers log : List ℕ) (done : Replay) (at : ℕ) (s : Start) (h : List Event) : Type 0 where
   pub after : List Event
   pub out : List ℕ
   pub rows : List Figured
@@ -87,9 +87,9 @@ pub record Progress {S V : Type 0} {G : server.Ghosts S V} {H : field.Ghosts V} 
   pub answered_is : answered after ≡ rows ++ answered h
   pub holds : Holds M T x s after
 
-module _ {S V : Type 0} {G : server.Ghosts S V} {H : field.Ghosts V} (M : FieldModel) (T : List ℕ) (text answers₀ log₀ : List ℕ) (s : Start) (h : List Event) where
+module _ {S V : Type 0} {GS : server.Ghosts S V} {GV : field.Ghosts V} (M : FieldModel) (T : List ℕ) (text answers₀ log₀ : List ℕ) (s : Start) (h : List Event) where
   pub one_line :
-      (x x' : Session S V G H) (answers log : List ℕ) (done : Replay) (at end : ℕ)
+      (x x' : Session S V GS GV) (answers log : List ℕ) (done : Replay) (at end : ℕ)
       → (p : Progress M T x text answers₀ log₀ answers log done at s h)
       → at ≤ end → end < length text → NoNewline (take (end - at) (drop at text)) → get_or text end 0 ≡ 10
       → 392 ≤ length answers - done.answers → 139 ≤ length log - done.log
@@ -131,7 +131,7 @@ module _ {S V : Type 0} {G : server.Ghosts S V} {H : field.Ghosts V} (M : FieldM
 
   -- the replay ends where no further line is handled
   pub ended :
-      (x : Session S V G H) (answers log : List ℕ) (done : Replay) (at : ℕ) → length text ≤ 65536 → 2 ≤ length log₀
+      (x : Session S V GS GV) (answers log : List ℕ) (done : Replay) (at : ℕ) → length text ≤ 65536 → 2 ≤ length log₀
       → (p : Progress M T x text answers₀ log₀ answers log done at s h)
       → (e : Option Refusal) → Stops (drop at text) (length answers - done.answers) (length log - done.log) e
       → Replayed M (length T) (value_at T) s h text answers₀ log₀

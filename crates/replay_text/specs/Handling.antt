@@ -29,7 +29,7 @@ Loggable M n room (Ok (Filled t)) = Unit {0}
 Loggable M n room (Err f) = Unit {0}
 
 abbrev pub LineDone :
-    {S V : Type 0} {G : server.Ghosts S V} {H : field.Ghosts V} → FieldModel → List ℕ → Session S V G H → ℕ → List ℕ → List ℕ → List ℕ → Session S V G H → List ℕ → List ℕ → Used → Type 0
+    {S V : Type 0} {GS : server.Ghosts S V} {GV : field.Ghosts V} → FieldModel → List ℕ → Session S V GS GV → ℕ → List ℕ → List ℕ → List ℕ → Session S V GS GV → List ℕ → List ℕ → Used → Type 0
 LineDone M T x k line answers log x' answers' log' used =
     Leads M T x x'
     (λ s h h'.

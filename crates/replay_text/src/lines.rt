@@ -4,7 +4,6 @@ ghost use Rattle.field.specs.Sums.{weights_of};
 ghost use Rattle.buffer.specs.Buffers.{Put};
 ghost use Rattle.answer_log.specs.Rows.{row_bytes};
 ghost use Rattle.answer_log.specs.Writes.{RowWrite};
-ghost use Rattle.session.specs.Views.{Sound};
 ghost use Rattle.log_record.specs.Joins.{rows_bytes};
 ghost use Rattle.request.specs.Requests.{row};
 ghost use Rattle.request.specs.Carried.{outcome_reply, outcome_rows};
@@ -98,11 +97,9 @@ pub(crate) fn handle_line<S: Server>(
     answers: &mut [u8],
     log: &mut [u8],
 ) -> Used
-    requires sound { Sound S.Over.Field.model (length (S.Server.table session.old.server)) session.old }
     requires number { number < 100000 }
     requires answers { 392 ≤ length answers.old }
     requires log { 139 ≤ length log.old }
-    ensures sound { Sound S.Over.Field.model (length (S.Server.table session.old.server)) session.new }
     ensures server { session.new.server ≡ session.old.server }
     ensures within { (result.answers ≤ length answers.old) × (result.log ≤ length log.old) }
     ensures lengths { (length answers.new ≡ length answers.old) × (length log.new ≡ length log.old) }

@@ -4,7 +4,6 @@ ghost use Rattle.buffer.specs.Buffers.{Front};
 ghost use Rattle.server.specs.Tables.{value_at};
 ghost use Rattle.answer_log.specs.Rows.{header_bytes};
 ghost use Rattle.history.specs.Theorems.{JudgingIsExact, EveryValueStaysPossible, ValuesAreNotSeen};
-ghost use Rattle.session.specs.Views.{Sound};
 ghost use Rattle.request.specs.Carried.{Leads};
 ghost use Rattle.replay_text.specs.Replays.{NoNewline, Stops, Replayed};
 
@@ -48,10 +47,8 @@ fn handle_lines<S: Server>(
     log: &mut [u8],
     header: usize,
 ) -> Replay
-    requires sound { Sound S.Over.Field.model (length (S.Server.table session.old.server)) session.old }
     requires text { length text.now ≤ 65536 }
     requires header { Front log.old log.old (header_bytes S.Over.Field.model (length (S.Server.table session.old.server))) header }
-    ensures sound { Sound S.Over.Field.model (length (S.Server.table session.old.server)) session.new }
     ensures server { session.new.server ≡ session.old.server }
     ensures law { Leads S.Over.Field.model (S.Server.table session.old.server) session.old session.new (λ s h h'. Replayed S.Over.Field.model (length (S.Server.table session.old.server)) (value_at (S.Server.table session.old.server)) s h text.now answers.old log.old result h' answers.new log.new) }
 {
@@ -103,8 +100,6 @@ pub fn replay<S: Server>(
     answers: &mut [u8],
     log: &mut [u8],
 ) -> Replay
-    requires sound { Sound S.Over.Field.model (length (S.Server.table session.old.server)) session.old }
-    ensures sound { Sound S.Over.Field.model (length (S.Server.table session.old.server)) session.new }
     ensures server { session.new.server ≡ session.old.server }
     ensures law { Leads S.Over.Field.model (S.Server.table session.old.server) session.old session.new (λ s h h'. Replayed S.Over.Field.model (length (S.Server.table session.old.server)) (value_at (S.Server.table session.old.server)) s h text.now answers.old log.old result h' answers.new log.new) }
     ensures exact { JudgingIsExact }

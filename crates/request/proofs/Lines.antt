@@ -23,7 +23,7 @@ pub read_as :
     → reading (limits M n) line ≡ Ok q'
 read_as M line size is same = ap (λ k. reading (limits M k) line) (sym size) ∙ sym is ∙ ap Ok same
 
-module _ {S V : Type 0} {G : server.Ghosts S V} {H : field.Ghosts V} (M : FieldModel) (T : List ℕ) (x x' : Session S V G H) (line : List ℕ) where
+module _ {S V : Type 0} {GS : server.Ghosts S V} {GV : field.Ghosts V} (M : FieldModel) (T : List ℕ) (x x' : Session S V GS GV) (line : List ℕ) where
   pub remark-line :
       reading (limits M (length T)) line ≡ Ok Remark → Leads M T x x (λ s h. Handled M (length T) (value_at T) s h line None [])
   remark-line is s h H = (h, remark is, H)

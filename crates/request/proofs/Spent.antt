@@ -30,7 +30,7 @@ no_figure e v q = let z : ◌≡◌ {A = ℕ} 0 1 = cc in omega arith
 not_taken : (e : Refusal) → refused e ≡ takes_back → ⊥
 not_taken e q = let z : ◌≡◌ {A = ℕ} 0 1 = cc in omega arith
 
-module _ {S V : Type 0} {G : server.Ghosts S V} {H : field.Ghosts V} (M : FieldModel) (T : List ℕ) (x x' : Session S V G H) (ws : List Element) where
+module _ {S V : Type 0} {GS : server.Ghosts S V} {GV : field.Ghosts V} (M : FieldModel) (T : List ℕ) (x x' : Session S V GS GV) (ws : List Element) where
   pub ask_refused :
       (e : Refusal) → Steps M T x (submits ws) (refused e) x' → Leads M T x x' (λ s h. Asked M (length T) (value_at T) s h ws (refused e))
   ask_refused e step s h H = let p = step s h H in (_, law.ask_refused e p.0, p.1)
@@ -39,7 +39,7 @@ module _ {S V : Type 0} {G : server.Ghosts S V} {H : field.Ghosts V} (M : FieldM
       (e : Refusal) → Steps M T x (submits ws) (refused e) x' → Leads M T x x' (λ s h. Tried M (length T) (value_at T) s h ws (refused e))
   try_refused e step s h H = let p = step s h H in (_, law.try_refused e p.0, p.1)
 
-  module _ (k : ℕ) (granted : Steps M T x (submits ws) (permits k) x') (x'' : Session S V G H) where
+  module _ (k : ℕ) (granted : Steps M T x (submits ws) (permits k) x') (x'' : Session S V GS GV) where
     pub ask_answered :
         (r : Result Element Refusal) → Steps M T x' (answers k) (figure_reply r) x''
         → Leads M T x x'' (λ s h. Asked M (length T) (value_at T) s h ws (figure_reply r))

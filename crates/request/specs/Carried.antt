@@ -48,10 +48,10 @@ outcome_rows n (Ok (Filled t)) = []
 outcome_rows n (Err f) = []
 
 -- for every history that x stands for, x' stands for one that P tells of
-abbrev pub Leads : {S V : Type 0} {G : server.Ghosts S V} {H : field.Ghosts V} → FieldModel → List ℕ → Session S V G H → Session S V G H → (Start → List Event → List Event → Type 0) → Type 0
+abbrev pub Leads : {S V : Type 0} {GS : server.Ghosts S V} {GV : field.Ghosts V} → FieldModel → List ℕ → Session S V GS GV → Session S V GS GV → (Start → List Event → List Event → Type 0) → Type 0
 Leads M T x x' P = (s : Start) (h : List Event) → Holds M T x s h → (h' : List Event) × P s h h' × Holds M T x' s h'
 
-abbrev pub CarriedOut : {S V : Type 0} {G : server.Ghosts S V} {H : field.Ghosts V} → FieldModel → List ℕ → Session S V G H → List ℕ → Result Outcome RequestFault → Session S V G H → Type 0
+abbrev pub CarriedOut : {S V : Type 0} {GS : server.Ghosts S V} {GV : field.Ghosts V} → FieldModel → List ℕ → Session S V GS GV → List ℕ → Result Outcome RequestFault → Session S V GS GV → Type 0
 CarriedOut M T x line r x' =
     Leads M T x x' (λ s h. Handled M (length T) (value_at T) s h line (outcome_reply (length T) r) (outcome_rows (length T) r))
 

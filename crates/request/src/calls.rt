@@ -3,7 +3,7 @@ ghost use Rattle.std.specs.Prelude.{◌≡◌, ℕ, ◌≤◌, length, IfOk};
 ghost use Rattle.field.specs.Sums.{weights_of};
 ghost use Rattle.server.specs.Tables.{value_at};
 ghost use Rattle.history.specs.Events.{witnesses};
-ghost use Rattle.session.specs.Views.{Sound, Steps, figure_reply, withdrawal_reply};
+ghost use Rattle.session.specs.Views.{Steps, figure_reply, withdrawal_reply};
 ghost use Rattle.request.specs.Requests.{Asked, Tried};
 ghost use Rattle.request.specs.Carried.{table_reply, Leads, CarriedOut, ReadAs};
 
@@ -17,8 +17,6 @@ use session::Session;
 
 // Submits a row, and answers it.
 fn ask<S: Server>(session: &mut Session<S>, row: &[Element]) -> Result<Element, Refusal>
-    requires sound { Sound S.Over.Field.model (length (S.Server.table session.old.server)) session.old }
-    ensures sound { Sound S.Over.Field.model (length (S.Server.table session.old.server)) session.new }
     ensures server { session.new.server ≡ session.old.server }
     ensures law { Leads S.Over.Field.model (S.Server.table session.old.server) session.old session.new (λ s h. Asked S.Over.Field.model (length (S.Server.table session.old.server)) (value_at (S.Server.table session.old.server)) s h row.now (figure_reply result)) }
 {
@@ -28,8 +26,6 @@ fn ask<S: Server>(session: &mut Session<S>, row: &[Element]) -> Result<Element, 
 
 // Submits a row, and withdraws it.
 fn attempt<S: Server>(session: &mut Session<S>, row: &[Element]) -> Result<(), Refusal>
-    requires sound { Sound S.Over.Field.model (length (S.Server.table session.old.server)) session.old }
-    ensures sound { Sound S.Over.Field.model (length (S.Server.table session.old.server)) session.new }
     ensures server { session.new.server ≡ session.old.server }
     ensures law { Leads S.Over.Field.model (S.Server.table session.old.server) session.old session.new (λ s h. Tried S.Over.Field.model (length (S.Server.table session.old.server)) (value_at (S.Server.table session.old.server)) s h row.now (withdrawal_reply result)) }
 {
@@ -43,7 +39,6 @@ fn witness_table<S: Server>(
     member: Member,
     element: Element,
 ) -> Result<[Element; 64], Refusal>
-    requires sound { Sound S.Over.Field.model (length (S.Server.table session.now.server)) session.now }
     ensures zero { IfOk result (λ t. (m : ℕ) → length (S.Server.table session.now.server) ≤ m → weights_of t m ≡ 0) }
     ensures law { Steps S.Over.Field.model (S.Server.table session.now.server) session.now (witnesses member.0 element.0 (length (S.Server.table session.now.server))) (table_reply (length (S.Server.table session.now.server)) result) session.now }
 {
@@ -54,8 +49,6 @@ fn witness_table<S: Server>(
 
 // Reads a line, and makes the calls that it wants.
 pub fn carry_out<S: Server>(session: &mut Session<S>, line: &[u8]) -> Result<Outcome, RequestFault>
-    requires sound { Sound S.Over.Field.model (length (S.Server.table session.old.server)) session.old }
-    ensures sound { Sound S.Over.Field.model (length (S.Server.table session.old.server)) session.new }
     ensures server { session.new.server ≡ session.old.server }
     ensures read { ReadAs S.Over.Field.model (length (S.Server.table session.old.server)) line.now result }
     ensures law { CarriedOut S.Over.Field.model (S.Server.table session.old.server) session.old line.now result session.new }

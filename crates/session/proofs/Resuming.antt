@@ -21,7 +21,7 @@ use Rattle.session.specs.Resumes.{after_log, Resumes, Own}
 use Rattle.session.specs.declared.session.OpenRow.{OpenRow}
 use Rattle.session.specs.declared.session.Session.{Session}
 
-module _ {S V : Type 0} {G : server.Ghosts S V} {H : field.Ghosts V} (M : FieldModel) (L : FieldLaws M) (T : List ℕ) (x : Session S V G H) (none_open : x.pending ≡ None) where
+module _ {S V : Type 0} {GS : server.Ghosts S V} {GV : field.Ghosts V} (M : FieldModel) (L : FieldLaws M) (T : List ℕ) (x : Session S V GS GV) (none_open : x.pending ≡ None) where
   open_is : SameOpen (length T) x.pending None
   open_is = subst (λ (o : Option OpenRow). SameOpen (length T) o None) (sym none_open) tt
 

@@ -66,10 +66,10 @@ fixed-pins_nobody M L n rec R none r fixes i (h, pins) =
       | no ne ↦ let one : ◌≡◌ {A = ℕ} 1 0 = sym (R.own_pivot a b) ∙ alone.1 _ (R.pivot_below a b) ne in omega arith
     ]
 
-module _ {S V : Type 0} {G : server.Ghosts S V} {H : field.Ghosts V} (M : FieldModel) (L : FieldLaws M) (T : List ℕ) where
+module _ {S V : Type 0} {GS : server.Ghosts S V} {GV : field.Ghosts V} (M : FieldModel) (L : FieldLaws M) (T : List ℕ) where
   -- a refusal changes nothing
   pub refused_step :
-      (x : Session S V G H) (s : Start) (h : List Event) (c : Call) (e : Refusal) → Holds M T x s h → Due M (length T) (value_at T) s h c (refused e)
+      (x : Session S V GS GV) (s : Start) (h : List Event) (c : Call) (e : Refusal) → Holds M T x s h → Due M (length T) (value_at T) s h c (refused e)
       → Due M (length T) (value_at T) s h c (refused e) × Holds M T x s (record { call = c; reply = refused e } ∷ h)
   refused_step x s h c e H due = (
     due,
@@ -84,7 +84,7 @@ module _ {S V : Type 0} {G : server.Ghosts S V} {H : field.Ghosts V} (M : FieldM
   )
 
   pub granted_step :
-      (x x' : Session S V G H) (s : Start) (h : List Event) (ws : List Element) (p : OpenRow) → Holds M T x s h
+      (x x' : Session S V GS GV) (s : Start) (h : List Event) (ws : List Element) (p : OpenRow) → Holds M T x s h
       → open_row h ≡ None → x.issued < 65535 → RowCheck M (length T) ws None
       → ((i : ℕ) → PinnedWith M (length T) (rec_of x.record) (weights_of ws) i → ⊥)
       → x'.record ≡ x.record → x'.issued ≡ x.issued + 1 → x'.pending ≡ Some p → p.permit ≡ x.issued + 1 → take (length T) p.weights ≡ ws
@@ -107,7 +107,7 @@ module _ {S V : Type 0} {G : server.Ghosts S V} {H : field.Ghosts V} (M : FieldM
       )
 
   pub answered_step :
-      (x x' : Session S V G H) (s : Start) (h : List Event) (p : OpenRow) (f : ℕ) → Holds M T x s h → x.pending ≡ Some p
+      (x x' : Session S V GS GV) (s : Start) (h : List Event) (p : OpenRow) (f : ℕ) → Holds M T x s h → x.pending ≡ Some p
       → RowCheck M (length T) (take (length T) p.weights) None → f ≡ sum M (length T) (weights_of (take (length T) p.weights)) (value_at T)
       → Adds M (length T) (rec_of x.record) (given_row (take (length T) p.weights) f) (rec_of x'.record)
       → x'.issued ≡ x.issued → x'.pending ≡ None
@@ -136,7 +136,7 @@ module _ {S V : Type 0} {G : server.Ghosts S V} {H : field.Ghosts V} (M : FieldM
       )
 
   pub withdrawn_step :
-      (x x' : Session S V G H) (s : Start) (h : List Event) (p : OpenRow) → Holds M T x s h → x.pending ≡ Some p
+      (x x' : Session S V GS GV) (s : Start) (h : List Event) (p : OpenRow) → Holds M T x s h → x.pending ≡ Some p
       → x'.record ≡ x.record → x'.issued ≡ x.issued → x'.pending ≡ None
       → Due M (length T) (value_at T) s h (withdraws p.permit) takes_back
       × Holds M T x' s (record { call = withdraws p.permit; reply = takes_back } ∷ h)
@@ -156,7 +156,7 @@ module _ {S V : Type 0} {G : server.Ghosts S V} {H : field.Ghosts V} (M : FieldM
 
   -- a number that is not the open permit's, or none is open
   pub not_open :
-      (x : Session S V G H) (s : Start) (h : List Event) (k : ℕ) → Holds M T x s h → ((p : OpenRow) → x.pending ≡ Some p → p.permit ≢ k)
+      (x : Session S V GS GV) (s : Start) (h : List Event) (k : ℕ) → Holds M T x s h → ((p : OpenRow) → x.pending ≡ Some p → p.permit ≢ k)
       → (o : events.OpenRow) → open_row h ≡ Some o → o.permit ≢ k
   not_open x s h k H other o is_open same = go x.pending refl (subst (SameOpen (length T) x.pending) is_open H.open_is)
     where
@@ -166,7 +166,7 @@ module _ {S V : Type 0} {G : server.Ghosts S V} {H : field.Ghosts V} (M : FieldM
 
 -- the open row has another number
 pub other_permit :
-    {S V : Type 0} {G : server.Ghosts S V} {H : field.Ghosts V} (x : Session S V G H) (p : OpenRow) (k : ℕ) → x.pending ≡ Some p → p.permit ≢ k
+    {S V : Type 0} {GS : server.Ghosts S V} {GV : field.Ghosts V} (x : Session S V GS GV) (p : OpenRow) (k : ℕ) → x.pending ≡ Some p → p.permit ≢ k
     → (q : OpenRow) → x.pending ≡ Some q → q.permit ≢ k
 other_permit x p k is ne q also same = ne (ap permit_of (sym is ∙ also) ∙ same)
   where
@@ -175,7 +175,7 @@ other_permit x p k is ne q also same = ne (ap permit_of (sym is ∙ also) ∙ sa
     permit_of (Some r) = r.permit
 
 -- the same for every history
-module _ {S V : Type 0} {G : server.Ghosts S V} {H : field.Ghosts V} (M : FieldModel) (L : FieldLaws M) (T : List ℕ) (x : Session S V G H) where
+module _ {S V : Type 0} {GS : server.Ghosts S V} {GV : field.Ghosts V} (M : FieldModel) (L : FieldLaws M) (T : List ℕ) (x : Session S V GS GV) where
   pub refused-steps :
       (c : Call) (e : Refusal) → ((s : Start) (h : List Event) → Holds M T x s h → Due M (length T) (value_at T) s h c (refused e))
       → Steps M T x c (refused e) x
@@ -191,7 +191,7 @@ module _ {S V : Type 0} {G : server.Ghosts S V} {H : field.Ghosts V} (M : FieldM
   withdrawal_refused-steps k other =
       refused-steps (withdraws k) NotTheOpenPermit (λ s h H. law.withdrawal_refused k (not_open M L T x s h k H other))
 
-  module _ (x' : Session S V G H) (p : OpenRow) where
+  module _ (x' : Session S V GS GV) (p : OpenRow) where
     pub answered-steps :
         (k f : ℕ) → p.permit ≡ k → x.pending ≡ Some p
         → RowCheck M (length T) (take (length T) p.weights) None → f ≡ sum M (length T) (weights_of (take (length T) p.weights)) (value_at T)
@@ -209,7 +209,7 @@ module _ {S V : Type 0} {G : server.Ghosts S V} {H : field.Ghosts V} (M : FieldM
         (λ s h H. withdrawn_step M L T x x' s h p H pending rec-same count none)
 
 -- submits
-module _ {S V : Type 0} {G : server.Ghosts S V} {H : field.Ghosts V} (M : FieldModel) (L : FieldLaws M) (T : List ℕ) (x : Session S V G H) (ws : List Element) where
+module _ {S V : Type 0} {GS : server.Ghosts S V} {GV : field.Ghosts V} (M : FieldModel) (L : FieldLaws M) (T : List ℕ) (x : Session S V GS GV) (ws : List Element) where
   pub submit_open_steps : is_some x.pending ≡ true → Steps M T x (submits ws) (refused PermitOpen) x
   submit_open_steps some =
       refused-steps M L T x (submits ws) PermitOpen (λ s h H. law.permit_open ws (λ none. go x.pending some (subst (SameOpen (length T) x.pending) none H.open_is)))
@@ -244,7 +244,7 @@ module _ {S V : Type 0} {G : server.Ghosts S V} {H : field.Ghosts V} (M : FieldM
         (λ s h H. law.discloses ws i (ready s h H) passed (lowest_pinned_by M L (length T) (given s h) H.codes (rec_of x.record) H.form ws i low))
 
     pub granted-steps :
-        (x' : Session S V G H) (p : OpenRow) → RowCheck M (length T) ws None
+        (x' : Session S V GS GV) (p : OpenRow) → RowCheck M (length T) ws None
         → ((i : ℕ) → PinnedWith M (length T) (rec_of x.record) (weights_of ws) i → ⊥)
         → x'.record ≡ x.record → x'.issued ≡ x.issued + 1 → x'.pending ≡ Some p → p.permit ≡ x.issued + 1 → take (length T) p.weights ≡ ws
         → Steps M T x (submits ws) (permits (x.issued + 1)) x'
@@ -260,7 +260,7 @@ judged-free_of M L n rec R none r j (judged.pins not i low) other = absurd (othe
 judged-free_of M L n rec R none r j (judged.free not free) other = free
 
 -- witnesses
-module _ {S V : Type 0} {G : server.Ghosts S V} {H : field.Ghosts V} (M : FieldModel) (L : FieldLaws M) (T : List ℕ) (x : Session S V G H) (i a l : ℕ) where
+module _ {S V : Type 0} {GS : server.Ghosts S V} {GV : field.Ghosts V} (M : FieldModel) (L : FieldLaws M) (T : List ℕ) (x : Session S V GS GV) (i a l : ℕ) where
   pub witness-refused-steps : (e : Refusal) → WitnessCheck M (length T) i a l (Some e) → Steps M T x (witnesses i a l) (refused e) x
   witness-refused-steps e fails = refused-steps M L T x (witnesses i a l) e (λ s h H. law.witness_refused i a l e fails)
 

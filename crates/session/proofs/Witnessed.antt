@@ -21,7 +21,7 @@ pub buffer-length : (M : FieldModel) (n i a l : ℕ) → WitnessCheck M n i a l 
 buffer-length M n i a l (accepted h k e) = e
 
 pub witnessed :
-    {S V U : Type 0} {G : server.Ghosts S V} {H : field.Ghosts V} (M : FieldModel) (L : FieldLaws M) (T : List ℕ) (x : Session S V G H) (n i a : ℕ) (before after : List Element) (r : Result U Refusal)
+    {S V U : Type 0} {GS : server.Ghosts S V} {GV : field.Ghosts V} (M : FieldModel) (L : FieldLaws M) (T : List ℕ) (x : Session S V GS GV) (n i a : ℕ) (before after : List Element) (r : Result U Refusal)
     → n ≡ length T → length after ≡ length before
     → MatchResult r
     (λ z. WitnessCheck M n i a (length before) None × Witness M n (rec_of x.record) i a (weights_of after) × (weights_of after i ≡ a)

@@ -27,7 +27,7 @@ SameOpen n None (Some o) = ⊥
 SameOpen n (Some p) None = ⊥
 SameOpen n (Some p) (Some o) = (p.permit ≡ o.permit) × (take n p.weights ≡ o.weights)
 
-pub record Holds {S V : Type 0} {G : server.Ghosts S V} {H : field.Ghosts V} (M : FieldModel) (T : List ℕ) (x : Session S V G H) (s : Start) (h : List Event) : Type 0 where
+pub record Holds {S V : Type 0} {GS : server.Ghosts S V} {GV : field.Ghosts V} (M : FieldModel) (T : List ℕ) (x : Session S V GS GV) (s : Start) (h : List Event) : Type 0 where
   pub sane : Sane M (length T) s
   pub lawful : Lawful M (length T) (value_at T) s h
   pub codes : RowsCodes M (length T) (rows_of (given s h))
@@ -35,7 +35,7 @@ pub record Holds {S V : Type 0} {G : server.Ghosts S V} {H : field.Ghosts V} (M 
   pub issued_is : x.issued ≡ issued s h
   pub open_is : SameOpen (length T) x.pending (open_row h)
 
-abbrev pub Steps : {S V : Type 0} {G : server.Ghosts S V} {H : field.Ghosts V} → FieldModel → List ℕ → Session S V G H → Call → Reply → Session S V G H → Type 0
+abbrev pub Steps : {S V : Type 0} {GS : server.Ghosts S V} {GV : field.Ghosts V} → FieldModel → List ℕ → Session S V GS GV → Call → Reply → Session S V GS GV → Type 0
 Steps M T x c r x' =
     (s : Start) (h : List Event) → Holds M T x s h
     → Due M (length T) (value_at T) s h c r × Holds M T x' s (record { call = c; reply = r } ∷ h)

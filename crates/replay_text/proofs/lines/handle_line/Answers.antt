@@ -26,7 +26,6 @@ returns g c =
     subst (λ (n : ℕ). Loggable M n (length log) came → Put (rows_bytes M n (outcome_rows n came)) log c.note.new.log c.note.result)
     c.count-n.ensures.members c.note.ensures.put in
     record {
-      sound = c.carry_out-came.ensures.sound;
       server = c.carry_out-came.ensures.server;
       within = (c.print.ensures.within, c.note.ensures.within);
       lengths = (c.print.ensures.length, c.note.ensures.length);

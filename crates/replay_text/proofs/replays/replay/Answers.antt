@@ -15,7 +15,6 @@ pub returns-then-text-gt-LONGEST : goal.returns-then-text-gt-LONGEST
 returns-then-text-gt-LONGEST g c =
     rw c.not_begun.ensures
     (record {
-      sound = c.requires.sound;
       server = refl;
       law = λ s h H. (h, too_long (omega (arith, c.if-text-gt-LONGEST.true)), H);
       exact = judging_is_exact_lem;
@@ -34,7 +33,6 @@ returns-in-Ok g c =
     let written : c.write_header.new.out ≡ onto (header_bytes M (length T)) log =
     subst (λ (n : ℕ). c.write_header.new.out ≡ onto (header_bytes M n) log) c.count.ensures.members at.1.buffer in
     record {
-      sound = c.handle_lines.ensures.sound;
       server = c.handle_lines.ensures.server;
       law =
           λ s h H.
@@ -52,7 +50,6 @@ returns-in-Err g c =
     let full = header_refused c.count.result (length c.args.log.now) (subst Count (sym c.count.ensures.members) (table.some, table.few)) c.in-Err.refusal at.0 in
     rw (c.not_begun-in-Err.ensures, full.0, at.1)
     (record {
-      sound = c.requires.sound;
       server = refl;
       law = λ s h H. (h, no_header (omega (arith, c.if-text-gt-LONGEST.false)) full.1, H);
       exact = judging_is_exact_lem;

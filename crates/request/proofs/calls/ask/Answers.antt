@@ -1,7 +1,7 @@
-use Rattle.std.proofs.Common.{◌≡◌, ℕ, List, length, ap, ◌∙◌, subst}
+use Rattle.std.proofs.Common.{◌≡◌, ℕ, List, ap, ◌∙◌, subst}
 use Rattle.std.proofs.lemmas.Result.{err_from_is_err_and}
 use Rattle.history.specs.Events.{answers}
-use Rattle.session.specs.Views.{Sound, Steps, figure_reply}
+use Rattle.session.specs.Views.{Steps, figure_reply}
 use Rattle.request.proofs.Spent.{ask_refused, ask_answered}
 use Rattle.request.proofs.calls.ask.Goals as goal
 
@@ -12,7 +12,6 @@ returns-in_err-permit g c =
     let p = err_from_is_err_and c.from_residual.result c.from_residual.ensures.1 in
     rw (p.1, p.2)
     (record {
-      sound = at.sound;
       server = at.server;
       law = ask_refused g.S.Over.Field.model (g.S.Server.table x.server) x c.submit.new.self c.args.row.now c.in_err-permit.field-0.0 at.law;
     })
@@ -29,7 +28,6 @@ returns g c =
     let step : Steps M T x₁ (answers c.in_ok-permit.permit.number) (figure_reply c.answer.result) x₂ =
     subst (λ (l : List ℕ). Steps M l x₁ (answers c.in_ok-permit.permit.number) (figure_reply c.answer.result) x₂) tables c.answer.ensures.law in
     record {
-      sound = subst (λ (l : List ℕ). Sound M (length l) x₂) tables c.answer.ensures.sound;
       server = c.answer.ensures.server ∙ at.server;
       law = ask_answered M T x x₁ c.args.row.now c.in_ok-permit.permit.number at.law x₂ c.answer.result step;
     }

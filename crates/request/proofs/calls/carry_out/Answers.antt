@@ -17,7 +17,7 @@ returns-in_err-weights g c =
     let is : reading (limits M (length T)) line ≡ Err c.in_err-weights.field-0.0 =
     ap (λ n. reading (limits M n) line) (sym c.count-n.ensures.members) ∙ sym c.in_err-weights.ensures.is in
     let p = err_from_is_err_and c.from_residual.result c.from_residual.ensures.1 in
-    rw (p.1, p.2) (record { sound = c.requires.sound; server = refl; read = is; law = faulty-line M T x x line _ is })
+    rw (p.1, p.2) (record { server = refl; read = is; law = faulty-line M T x x line _ is })
 
 pub returns-in-Remark : goal.returns-in-Remark
 returns-in-Remark g c =
@@ -26,7 +26,7 @@ returns-in-Remark g c =
     let T = g.S.Server.table x.server in
     let line = c.args.line.now in
     let is = read_as M line c.count-n.ensures.members c.in_ok-weights.ensures.is c.in-Remark.is in
-    record { sound = c.requires.sound; server = refl; read = is; law = remark-line M T x x line is }
+    record { server = refl; read = is; law = remark-line M T x x line is }
 
 pub returns-in_err-figure-in-Ask : goal.returns-in_err-figure-in-Ask
 returns-in_err-figure-in-Ask g c =
@@ -42,7 +42,7 @@ returns-in_err-figure-in-Ask g c =
     let at = c.in_err-figure-in-Ask.ensures in
     let leads = subst (λ (k : ℕ). Leads M T x x' (λ s h. Asked M (length T) (value_at T) s h (take k w.0) (refused e))) size at.law in
     let p = err_from_is_err_and c.from_residual-in_err-figure-in-Ask.result c.from_residual-in_err-figure-in-Ask.ensures.1 in
-    rw (p.1, p.2) (record { sound = at.sound; server = at.server; read = (_, is); law = asked-line M T x x' line w (refused e) is leads })
+    rw (p.1, p.2) (record { server = at.server; read = (_, is); law = asked-line M T x x' line w (refused e) is leads })
 
 pub returns-in_ok-figure-in-Ask : goal.returns-in_ok-figure-in-Ask
 returns-in_ok-figure-in-Ask g c =
@@ -57,7 +57,7 @@ returns-in_ok-figure-in-Ask g c =
     let size : c.count-n.result - 0 ≡ length T = omega (arith, c.count-n.ensures.members) in
     let at = c.in_ok-figure-in-Ask.ensures in
     let leads = subst (λ (k : ℕ). Leads M T x x' (λ s h. Asked M (length T) (value_at T) s h (take k w.0) (gives v))) size at.law in
-    record { sound = at.sound; server = at.server; read = is; law = asked-line M T x x' line w (gives v) is leads }
+    record { server = at.server; read = is; law = asked-line M T x x' line w (gives v) is leads }
 
 pub returns-in_err-attempt-in-Try : goal.returns-in_err-attempt-in-Try
 returns-in_err-attempt-in-Try g c =
@@ -73,7 +73,7 @@ returns-in_err-attempt-in-Try g c =
     let at = c.in_err-attempt-in-Try.ensures in
     let leads = subst (λ (k : ℕ). Leads M T x x' (λ s h. Tried M (length T) (value_at T) s h (take k w.0) (refused e))) size at.law in
     let p = err_from_is_err_and c.from_residual-in_err-attempt-in-Try.result c.from_residual-in_err-attempt-in-Try.ensures.1 in
-    rw (p.1, p.2) (record { sound = at.sound; server = at.server; read = (_, is); law = tried-line M T x x' line w (refused e) is leads })
+    rw (p.1, p.2) (record { server = at.server; read = (_, is); law = tried-line M T x x' line w (refused e) is leads })
 
 pub returns-in_ok-attempt-in-Try : goal.returns-in_ok-attempt-in-Try
 returns-in_ok-attempt-in-Try g c =
@@ -87,7 +87,7 @@ returns-in_ok-attempt-in-Try g c =
     let size : c.count-n.result - 0 ≡ length T = omega (arith, c.count-n.ensures.members) in
     let at = c.in_ok-attempt-in-Try.ensures in
     let leads = subst (λ (k : ℕ). Leads M T x x' (λ s h. Tried M (length T) (value_at T) s h (take k w.0) takes_back)) size at.law in
-    record { sound = at.sound; server = at.server; read = (w, is); law = tried-line M T x x' line w takes_back is leads }
+    record { server = at.server; read = (w, is); law = tried-line M T x x' line w takes_back is leads }
 
 pub returns-in_err-table-in-Witness : goal.returns-in_err-table-in-Witness
 returns-in_err-table-in-Witness g c =
@@ -98,7 +98,7 @@ returns-in_err-table-in-Witness g c =
     let is = read_as M line c.count-n.ensures.members c.in_ok-weights.ensures.is c.in-Witness.is in
     let p = err_from_is_err_and c.from_residual-in_err-table-in-Witness.result c.from_residual-in_err-table-in-Witness.ensures.1 in
     rw (p.1, p.2)
-    (record { sound = c.requires.sound; server = refl; read = (_, is); law = witness-line M T x x line _ _ _ is c.in_err-table-in-Witness.ensures.law })
+    (record { server = refl; read = (_, is); law = witness-line M T x x line _ _ _ is c.in_err-table-in-Witness.ensures.law })
 
 pub returns-in_ok-table-in-Witness : goal.returns-in_ok-table-in-Witness
 returns-in_ok-table-in-Witness g c =
@@ -108,4 +108,4 @@ returns-in_ok-table-in-Witness g c =
     let line = c.args.line.now in
     let is = read_as M line c.count-n.ensures.members c.in_ok-weights.ensures.is c.in-Witness.is in
     let at = c.in_ok-table-in-Witness.ensures in
-    record { sound = c.requires.sound; server = refl; read = ((_, _, is), at.zero); law = witness-line M T x x line _ _ _ is at.law }
+    record { server = refl; read = ((_, _, is), at.zero); law = witness-line M T x x line _ _ _ is at.law }

@@ -1,19 +1,11 @@
 -- Answers for `replay_new`: the new session stands for the empty history, and the replay goes on from there.
-use Rattle.std.proofs.Common.{[], ◌++◌, length, take, vec_items, sym, ap, ◌∙◌, subst, arith}
+use Rattle.std.proofs.Common.{[], ◌++◌, take, vec_items, sym, ap, ◌∙◌, subst, arith}
 use Rattle.history.specs.Events.{new_session}
-use Rattle.session.specs.Views.{Sound, Holds}
+use Rattle.session.specs.Views.{Holds}
 use Rattle.survey_job.specs.Jobs.{stop_text, Replays}
 use Rattle.survey_job.proofs.Buffers.{lent_back}
 use Rattle.survey_job.proofs.Assembled.{assembled}
 use Rattle.survey_job.proofs.replays.replay_new.Goals as goal
-
-pub replay-done-requires : goal.replay-done-requires
-replay-done-requires g c =
-    record {
-      sound =
-          subst (λ (s : _). Sound g.S.Over.Field.model (length (g.S.Server.table s)) c.new-session.result) (sym c.new-session.ensures.server)
-          c.new-session.ensures.sound;
-    }
 
 pub returns : goal.returns
 returns g c =
