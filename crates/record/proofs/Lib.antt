@@ -9,3 +9,4 @@ pub mod Standing
 pub mod Verdict
 pub mod Admitting
 pub mod Witnessing
+pub mod Padding

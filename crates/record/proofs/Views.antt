@@ -1,8 +1,15 @@
 -- A record in memory and the theory's record: its rows by place, and reduced echelon form from type and soundness.
 -- Assumes nothing.
-use Rattle.std.proofs.Common.{◌≡◌, ℕ, suc, ◌<◌, ◌≢◌, List, [], ◌∷◌, length, get_or, set, vec_items, sym, ap, ◌∙◌, subst, ap₂, arith}
+use Rattle.std.proofs.Common.{◌≡◌, ℕ, suc, ◌<◌, ◌≤◌, ◌≢◌, List, [], ◌∷◌, length, get_or, set, vec_items, refl, sym, ap, ◌∙◌, subst, ap₂, arith, Ok, Err, Result, MatchResult}
 use lib.ListN.{length-map, get_or-map}
-use Rattle.std.proofs.lemmas.List.{get_or-set_same, get_or-set_other}
+use native.Mathlib.Decide.{ℕ_discrete, dec_lt}
+use Rattle.std.specs.List.Sorted.{IsNonDecreasingBy, IsBinarySearchResult}
+use Rattle.std.specs.Ordering.{nat_cmp, ordering_index}
+use Rattle.std.specs.declared.cmp.Ordering.TheVariants.{Less, Equal, Greater}
+use Rattle.std.proofs.lemmas.Cmp.{ranked}
+use Rattle.std.proofs.lemmas.Bool.Decides.{nat_tests}
+use Rattle.std.proofs.lemmas.List.Sorted.{IsNonDecreasingBy-from_default}
+use Rattle.std.proofs.lemmas.List.{get_or-set_same, get_or-set_other, get_or_default}
 use Rattle.field.specs.Model.{FieldModel}
 use Rattle.field.specs.declared.Field.{Ghosts}
 use Rattle.echelon.specs.Reduced.{Pivoted, at, figured, Reduced}
@@ -89,3 +96,45 @@ pub cleared-row :
 cleared-row M n e d x y is pivot same =
     subst (λ (z : Pivoted). SamePivoted n (pivoted y) (pivot_cleared M e z)) (sym is)
     (record { pivots = ap (λ p. p.0) (sym pivot); weights = same.rows; figures = same.figures })
+
+-- the rows' pivots rise, as a search by halves wants it
+pub pivots_sorted : {F : Type 0} {G : Ghosts F} (r : Record F G) → IsNonDecreasingBy (λ x. x.pivot.0) (vec_items r.rows)
+pivots_sorted r =
+    let rows = vec_items r.rows in
+    let pivot : (a : ℕ) → (get_or rows a no_record_row).pivot.0 ≡ (at (rec_of r) a).pivot = λ a. ap (λ p. p.pivot) (sym (at_row rows a)) in
+    IsNonDecreasingBy-from_default (λ x. x.pivot.0) rows no_record_row
+    (λ i j le h.
+    elim (ℕ_discrete i j) [
+      | yes e ↦ subst (λ k. (get_or rows i no_record_row).pivot.0 ≤ (get_or rows k no_record_row).pivot.0) e (omega arith)
+      | no ne ↦ let rises = r.pivots_rise i j (omega (arith, ne)) (simp length-map h) in omega (arith, pivot i, pivot j, rises)
+    ])
+
+-- the order of a number and m rises with the number
+pub order_rises : (p q m : ℕ) → p ≤ q → ordering_index (nat_cmp p m) ≤ ordering_index (nat_cmp q m)
+order_rises p q m le = Prim.grind (arith, nat_tests)
+
+-- what a search by halves for a member's pivot tells
+pub searched : {F : Type 0} {G : Ghosts F} (r : Record F G) (rows : List RecordRow) → rows ≡ vec_items r.rows → (m : ℕ) (o : Result ℕ ℕ)
+    → IsBinarySearchResult (λ x. nat_cmp x.pivot.0 m) rows o
+    → MatchResult o (λ k. (at (rec_of r) k).pivot ≡ m) (λ k. (a : ℕ) → a < length (rec_of r) → (at (rec_of r) a).pivot ≢ m)
+searched r rows e m (Ok k) found =
+    let is = ranked _ m Equal (sym (found no_record_row)) in
+    ap (λ l. (at (all_pivoted l) k).pivot) (sym e) ∙ ap (λ p. p.pivot) (at_row rows k) ∙ is
+searched r rows e m (Err k) parted =
+    let rise : IsNonDecreasingBy (λ x. ordering_index (nat_cmp x.pivot.0 m)) rows =
+    λ i j d le h. order_rises _ _ m (subst (IsNonDecreasingBy (λ x. x.pivot.0)) (sym e) (pivots_sorted r) i j d le h) in
+    let cut = parted rise in
+    let pivot : (a : ℕ) → (at (rec_of r) a).pivot ≡ (get_or rows a no_record_row).pivot.0 =
+    λ a. ap (λ l. (at (all_pivoted l) a).pivot) (sym e) ∙ ap (λ p. p.pivot) (at_row rows a) in
+    λ a h z.
+    elim (dec_lt a k) [
+      | yes b ↦ let less = ranked _ m Less (sym (cut.0 a no_record_row (omega arith) b)) in omega (arith, pivot a, z)
+      | no b ↦ let more = ranked _ m Greater (sym (cut.1 a no_record_row (omega arith) (subst (λ (l : List RecordRow). a < length l) (sym e) (omega (arith, h, rows-length (vec_items r.rows)))))) in omega (arith, pivot a, z)
+    ]
+
+-- the same of a row that was read by its place
+pub read_facts :
+    {F : Type 0} {G : Ghosts F} (r : Record F G) (k : ℕ) (x : RecordRow) → k < length (vec_items r.rows) → x ≡ get_or (vec_items r.rows) k x
+    → RowFacts r x k
+read_facts r k x h e =
+    subst (λ y. RowFacts r y k) (get_or_default (vec_items r.rows) k no_record_row x h ∙ sym e) (facts_of r (vec_items r.rows) refl k h)

@@ -21,7 +21,9 @@ pub struct RecordRow {
 }
 
 mod checks;
+mod padding;
 mod steps;
 
 pub use checks::check_row;
+pub use padding::padded;
 pub use steps::minus;

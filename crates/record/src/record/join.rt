@@ -22,10 +22,8 @@ fn clear_rows<F: Field>(rows: &mut Vec<RecordRow>, by: &RecordRow, n: usize)
     ensures cap { vec_capacity rows.new ≡ vec_capacity rows.old }
     ensures is { (a : ℕ) → a < vec_len rows.old → SamePivoted n (at (all_pivoted rows.new.items) a) (pivot_cleared F.model (pivoted by.now) (at (all_pivoted rows.old.items) a)) }
 {
-    for a in 0..rows.len() {
-        let mut row = rows[a];
+    for row in rows.iter_mut() {
         row.row.clear::<F>(by, n);
-        rows[a] = row;
     }
 }
 
@@ -36,12 +34,11 @@ impl<F: Field> Record<F> {
         ensures below { (a : ℕ) → a < result.0 → (at (rec_of self.now) a).pivot < pivot.0 }
         ensures above { (a : ℕ) → result.0 ≤ a → a < length (rec_of self.now) → pivot.0 ≤ (at (rec_of self.now) a).pivot }
     {
-        for (a, row) in self.rows.as_slice().iter().enumerate() {
-            if row.pivot.0 >= pivot.0 {
-                return RowNumber(a);
-            }
-        }
-        RowNumber(self.rows.len())
+        RowNumber(
+            self.rows
+                .as_slice()
+                .partition_point(|row| row.pivot < pivot),
+        )
     }
 
     // Puts a row in before row `k`, and clears its pivot from the others.
@@ -55,8 +52,6 @@ impl<F: Field> Record<F> {
         ensures is { Same self.old.count (joined F.model (pivoted fresh) k.0 (rec_of self.old)) (rec_of self.new) }
     {
         clear_rows::<F>(&mut self.rows, &fresh, self.count);
-        if self.rows.insert(k.0, fresh).is_err() {
-            unreachable()
-        }
+        self.rows.insert(k.0, fresh).unwrap();
     }
 }

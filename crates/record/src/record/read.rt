@@ -20,9 +20,6 @@ impl<F: Field> Record<F> {
     pub fn row(&self, k: RowNumber) -> Option<RecordRow>
         ensures { MatchOption result (length (rec_of self.now) ≤ k.0) (λ x. (k.0 < length (rec_of self.now)) × (at (rec_of self.now) k.0 ≡ pivoted x)) }
     {
-        match self.rows.as_slice().get(k.0) {
-            Some(row) => Some(*row),
-            None => None,
-        }
+        self.rows.as_slice().get(k.0).copied()
     }
 }

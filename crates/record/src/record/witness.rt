@@ -22,17 +22,17 @@ impl<F: Field> Record<F> {
         ensures free { Free (rec_of self.now) result.0.0 }
         ensures factor { result.1.0 < F.model.size }
     {
-        for row in self.rows.as_slice() {
-            if row.pivot.0 == member.0 {
-                let Some(free) = row.row.lowest_other(row.pivot, self.count) else {
-                    unreachable()
-                };
-                let share = F::inv(row.row.weights[free.0]);
-                let factor = F::mul(minus::<F>(row.row.figure, element), share);
-                return (free, factor);
-            }
-        }
-        (member, element)
+        let Ok(k) = self
+            .rows
+            .as_slice()
+            .binary_search_by_key(&member, |row| row.pivot)
+        else {
+            return (member, element);
+        };
+        let row = &self.rows[k];
+        let free = row.row.lowest_other(row.pivot, self.count).unwrap();
+        let share = F::inv(row.row.weights[free.0]);
+        (free, F::mul(minus::<F>(row.row.figure, element), share))
     }
 
     // Writes a table that fits the record, moved by `factor` along the direction of a free member.
@@ -43,9 +43,7 @@ impl<F: Field> Record<F> {
         requires factor { factor.0 < F.model.size }
         ensures { (m : ℕ) → m < self.now.count → weights_of out.new m ≡ F.model.plus (base (rec_of self.now) m) (F.model.times factor.0 (direction F.model (rec_of self.now) free.0 m)) }
     {
-        for value in out.iter_mut() {
-            *value = Element(0);
-        }
+        out.fill(Element(0));
         out[free.0] = factor;
         for row in self.rows.as_slice() {
             let step = F::neg(row.row.weights[free.0]);

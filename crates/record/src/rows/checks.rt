@@ -12,18 +12,11 @@ pub fn check_row<F: Field>(weights: &[Element], n: usize) -> Result<(), Refusal>
     if weights.len() != n {
         return Err(Refusal::WrongRowLength);
     }
-    let mut named = false;
-    for (m, weight) in weights.iter().enumerate() {
-        if weight.0 >= F::size() {
-            return Err(Refusal::NotAnElement(Site::OfMember(Member(m))));
-        }
-        if weight.0 != 0 {
-            named = true;
-        }
+    if let Some(m) = weights.iter().position(|weight| weight.0 >= F::size()) {
+        return Err(Refusal::NotAnElement(Site::OfMember(Member(m))));
     }
-    if named {
-        Ok(())
-    } else {
-        Err(Refusal::NoMemberNamed(Site::Nothing))
+    if weights.iter().all(|weight| weight.0 == 0) {
+        return Err(Refusal::NoMemberNamed(Site::Nothing));
     }
+    Ok(())
 }

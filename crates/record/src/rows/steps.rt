@@ -4,7 +4,7 @@ ghost use Rattle.field.specs.Sums.{minus, weights_of};
 ghost use Rattle.echelon.specs.Elimination.{cleared, scaled};
 ghost use Rattle.record.specs.Rows.{figured_row, pivoted, figured_record_row, SameRow, CodedRow};
 
-use crate::rows::{FiguredRow, RecordRow};
+use crate::rows::{FiguredRow, RecordRow, padded};
 use field::{Element, Field};
 use refusal::Member;
 
@@ -30,8 +30,8 @@ impl FiguredRow {
         if factor.0 == 0 {
             return;
         }
-        for m in 0..n {
-            self.weights[m] = minus::<F>(self.weights[m], F::mul(factor, by.row.weights[m]));
+        for (m, weight) in self.weights[..n].iter_mut().enumerate() {
+            *weight = minus::<F>(*weight, F::mul(factor, by.row.weights[m]));
         }
         self.figure = minus::<F>(self.figure, F::mul(factor, by.row.figure));
     }
@@ -42,8 +42,8 @@ impl FiguredRow {
         ensures is { SameRow n (figured_row self.new) (scaled F.model factor.0 (figured_row self.old)) }
         ensures coded { CodedRow F.model n (figured_row self.new) }
     {
-        for m in 0..n {
-            self.weights[m] = F::mul(factor, self.weights[m]);
+        for weight in self.weights[..n].iter_mut() {
+            *weight = F::mul(factor, *weight);
         }
         self.figure = F::mul(factor, self.figure);
     }
@@ -53,12 +53,10 @@ impl FiguredRow {
         requires few { n ≤ 64 }
         ensures { MatchOption result ((m : ℕ) → m < n → weights_of self.now.weights m ≡ 0) (λ p. (p.0 < n) × (weights_of self.now.weights p.0 ≢ 0) × ((m : ℕ) → m < p.0 → weights_of self.now.weights m ≡ 0)) }
     {
-        for m in 0..n {
-            if self.weights[m].0 != 0 {
-                return Some(Member(m));
-            }
-        }
-        None
+        self.weights[..n]
+            .iter()
+            .position(|weight| weight.0 != 0)
+            .map(Member)
     }
 
     // The lowest named member other than one.
@@ -66,12 +64,9 @@ impl FiguredRow {
         requires few { n ≤ 64 }
         ensures { MatchOption result ((m : ℕ) → m < n → m ≢ than.0 → weights_of self.now.weights m ≡ 0) (λ p. (p.0 < n) × (p.0 ≢ than.0) × (weights_of self.now.weights p.0 ≢ 0) × ((m : ℕ) → m < p.0 → m ≢ than.0 → weights_of self.now.weights m ≡ 0)) }
     {
-        for m in 0..n {
-            if m != than.0 && self.weights[m].0 != 0 {
-                return Some(Member(m));
-            }
-        }
-        None
+        (0..n)
+            .find(|m| *m != than.0 && self.weights[*m].0 != 0)
+            .map(Member)
     }
 
     // The row of some weights, 0 past the last, with a figure.
@@ -80,13 +75,9 @@ impl FiguredRow {
         ensures row { (m : ℕ) → weights_of result.weights m ≡ weights_of weights.now m }
         ensures figure { result.figure ≡ figure }
     {
-        let mut row = FiguredRow {
-            weights: [Element(0); 64],
+        FiguredRow {
+            weights: padded(weights),
             figure,
-        };
-        for (m, weight) in weights.iter().enumerate() {
-            row.weights[m] = *weight;
         }
-        row
     }
 }

@@ -1,5 +1,5 @@
-use Rattle.std.proofs.Common.{◌≡◌, ◌<◌, ◌≤◌, ◌≢◌, length, get_or, set, sym, ap, ◌∙◌, arith, length-set, below_more}
-use native.Mathlib.Decide.{ℕ_discrete}
+use Rattle.std.proofs.Common.{◌≡◌, ℕ, ◌-◌, ◌<◌, ◌≤◌, length, get_or, set, sym, ap, ◌∙◌, arith, length-set}
+use native.Mathlib.Decide.{ℕ_discrete, dec_lt}
 use lib.ListN.{length-map}
 use Rattle.field.specs.Sums.{weights_of}
 use Rattle.echelon.specs.Reduced.{at}
@@ -9,23 +9,24 @@ use Rattle.record.proofs.Weights.{written, unwritten}
 use Rattle.record.proofs.Witnessing.{target, target_pivot, target_self, target_other, target_all, apart}
 use Rattle.record.proofs.record.Record.fill.Goals as goal
 
-pub loop-value-preserved : goal.loop-value-preserved
-loop-value-preserved g c =
-    let out = c.loop-value.out in
-    let i = c.loop-value.value-index in
-    below_more (λ k. weights_of (set out i (record { 0 = 0 })) k ≡ 0) i
-    (λ k h. let ne : k ≢ i = omega arith in unwritten out i k _ ne ∙ c.loop-value.invariant k h) (written out i _ (omega arith))
-
 pub loop-row-init : goal.loop-row-init
 loop-row-init g c =
     let M = g.F.Field.model in
     let L = g.met.F.Field.laws in
     let r = c.args.self.now in
     let R = reduced_of r in
-    let out = c.loop-value.out in
+    let out = c.fill.new.self in
     let j = c.args.free.0 in
     let t = c.args.factor in
-    let sized : length out ≡ r.count = omega (arith, c.requires.length, c.loop-value.auto.out) in
+    let filled : (m : ℕ) → m < length out → weights_of out m ≡ 0 =
+    λ m h.
+    elim (dec_lt m (length out - 1)) [
+      | yes b ↦ ap (λ e. e.0) (c.fill.ensures.clones_before_last m (record { 0 = 0 }) (omega arith) (omega (arith, c.fill.ensures.len)))
+      | no b ↦
+          let last : m ≡ length out - 1 = omega arith in
+          ap (weights_of out) (last ∙ ap (λ k. k - 1) c.fill.ensures.len) ∙ ap (λ e. e.0) (c.fill.ensures.last (omega (arith, c.fill.ensures.len)) (record { 0 = 0 }))
+    ] in
+    let sized : length out ≡ r.count = omega (arith, c.requires.length, c.fill.ensures.len) in
     let inside : j < length out = let below = c.requires.below in omega arith in (
       length-set out j t ∙ sized,
       λ b h. absurd (omega arith),
@@ -36,8 +37,7 @@ loop-row-init g c =
                 ∙ ap (target M L r.count (rec_of r) R t.0 j) (sym same)
             | no ne ↦
                 let short : m < length out = rw (← length-set out j t) h in
-                let below : m < c.loop-value.value-index = omega (arith, c.loop-value-test.false) in
-                unwritten out j m t ne ∙ c.loop-value.invariant m below ∙ sym (target_other M L r.count (rec_of r) R t.0 j m c.requires.factor free ne)
+                unwritten out j m t ne ∙ filled m (omega (arith, short)) ∙ sym (target_other M L r.count (rec_of r) R t.0 j m c.requires.factor free ne)
           ],
     )
 

@@ -5,9 +5,6 @@ use Rattle.echelon.specs.Witness.{Free, base, direction}
 use Rattle.record.specs.Records.{rec_of}
 use Rattle.record.proofs.record.Record.fill.Given as goal
 
-abbrev pub invariant-loop-value : goal.invariant-loop-value
-invariant-loop-value g l = (k : ℕ) → k < l.value-index → weights_of l.out k ≡ 0
-
 abbrev pub invariant-loop-row : goal.invariant-loop-row
 invariant-loop-row g l =
     let M = g.F.Field.model in

@@ -1,5 +1,4 @@
 use Rattle.std.proofs.Common.{◌≡◌, true, cond, List, length, is_ok, vec_items, sym, refl, ap, ◌∙◌, subst, arith}
-use borrow.Author.Tests.{clash}
 use lib.ListN.{length-map}
 use Rattle.std.specs.List.{insert}
 use Rattle.echelon.specs.Reduced.{Same}
@@ -74,10 +73,8 @@ invariant_of-self g c =
       room = omega (arith, c.insert.ensures.capacity, c.clear_rows.ensures.cap, r.room);
     }
 
-pub unreachable-requires : goal.unreachable-requires
-unreachable-requires g c =
-    let ok = went_in g (goal.at.unreachable-requires g c).After-insert in
-    clash (sym c.if-is_err.ensures.negation ∙ ok)
+pub unwrap-requires : goal.unwrap-requires
+unwrap-requires g c = went_in g (goal.at.unwrap-requires g c).After-insert
 
 pub returns : goal.returns
 returns g c = record { count = refl; is = rows_after g (goal.at.returns g c).After-insert }

@@ -1,47 +1,27 @@
-use Rattle.std.proofs.Common.{◌≡◌, ℕ, ◌<◌, ◌≤◌, length, get_or, vec_items, sym, ap, ◌∙◌, subst, arith, below_more}
-use native.Mathlib.Decide.{ℕ_discrete}
+use Rattle.std.proofs.Common.{rules, ◌≡◌, ◌<◌, ◌≤◌, length, get_or, vec_items, ltb, sym, ap, ◌∙◌, subst, arith, ltb-true, ltb-false}
 use lib.ListN.{length-map}
+use Rattle.std.specs.List.Sorted.{IsPartitionedBy}
+use Rattle.std.proofs.lemmas.List.Sorted.{IsPartitionPoint-from_clause, IsPartitionedBy-ltb}
 use Rattle.echelon.specs.Reduced.{at}
 use Rattle.record.specs.Records.{rec_of}
 use Rattle.record.specs.Shapes.{all_pivoted}
-use Rattle.record.proofs.Views.{at_row, no_record_row}
+use Rattle.record.proofs.Views.{at_row, no_record_row, pivots_sorted}
 use Rattle.record.proofs.record.Record.place_of.Goals as goal
-
-pub returns-then-row-pivot : goal.returns-then-row-pivot
-returns-then-row-pivot g c =
-    let r = c.args.self.now in
-    let k = c.loop-a.a in
-    let sl = c.as_slice-row-items.result.now in
-    let here : (at (rec_of r) k).pivot ≡ (get_or sl k no_record_row).pivot.0 =
-    ap (λ l. (at (all_pivoted l) k).pivot) (sym c.as_slice-row-items.ensures.value) ∙ ap (λ p. p.pivot) (at_row sl k) in
-    let size : length (rec_of r) ≡ length sl = length-map _ _ ∙ ap length (sym c.as_slice-row-items.ensures.value) in
-    record {
-      within = omega (arith, c.loop-a-test.true);
-      below = c.loop-a.invariant;
-      above = λ a low h.
-          elim (ℕ_discrete k a) [
-            | yes same ↦ subst (λ (b : ℕ). c.args.pivot.0 ≤ (at (rec_of r) b).pivot) same (omega (arith, c.if-row-pivot.true))
-            | no ne ↦ let up : (at (rec_of r) k).pivot < (at (rec_of r) a).pivot = r.pivots_rise k a (omega arith) h in omega (arith, c.if-row-pivot.true)
-          ];
-    }
-
-pub loop-a-preserved : goal.loop-a-preserved
-loop-a-preserved g c =
-    let r = c.args.self.now in
-    let k = c.loop-a.a in
-    let sl = c.as_slice-row-items.result.now in
-    let here : (at (rec_of r) k).pivot ≡ (get_or sl k no_record_row).pivot.0 =
-    ap (λ l. (at (all_pivoted l) k).pivot) (sym c.as_slice-row-items.ensures.value) ∙ ap (λ p. p.pivot) (at_row sl k) in
-    below_more (λ b. (at (rec_of r) b).pivot < c.args.pivot.0) k c.loop-a.invariant (omega (arith, c.if-row-pivot.false))
 
 pub returns : goal.returns
 returns g c =
     let r = c.args.self.now in
-    let size : length (rec_of r) ≡ length (vec_items r.rows) = length-map _ _ in
-    let same : length c.as_slice-row-items.result.now ≡ length (vec_items r.rows) = ap length c.as_slice-row-items.ensures.value in
-    let len = c.as_slice-row-items.ensures.len in
+    let rows = c.as_slice.result.now in
+    let p = c.args.pivot.0 in
+    let size : length (rec_of r) ≡ length rows = length-map _ _ ∙ ap length (sym c.as_slice.ensures.value) in
+    let pivot : (a : _) → (at (rec_of r) a).pivot ≡ (get_or rows a no_record_row).pivot.0 =
+    λ a. ap (λ l. (at (all_pivoted l) a).pivot) (sym c.as_slice.ensures.value) ∙ ap (λ e. e.pivot) (at_row rows a) in
+    let parted =
+    IsPartitionPoint-from_clause (λ x. ltb x.pivot.0 p) rows _ c.partition_point.ensures.partitioned
+    (subst (λ l. IsPartitionedBy (λ x. ltb x.pivot.0 p) l) (sym c.as_slice.ensures.value) (IsPartitionedBy-ltb (λ x. x.pivot.0) (vec_items r.rows) p (pivots_sorted r)))
+    (λ a b f' k. search rules) in
     record {
-      within = omega (arith, c.len.ensures);
-      below = λ a h. c.loop-a.invariant a (omega (arith, c.len.ensures, c.loop-a-test.false));
-      above = λ a low h. absurd (omega (arith, c.len.ensures));
+      within = omega (arith, size, c.partition_point.ensures.bound);
+      below = λ a h. subst (λ k. k < p) (sym (pivot a)) (ltb-true _ _ (parted.0 a no_record_row (omega arith) h));
+      above = λ a h k. subst (λ j. p ≤ j) (sym (pivot a)) (ltb-false _ _ (parted.1 a no_record_row h (omega (arith, size))));
     }

@@ -1,6 +1,5 @@
-use Rattle.std.proofs.Common.{◌≡◌, ℕ, ◌<◌, ◌≢◌, length, set, vec_items, sym, refl, ap, ◌∙◌, subst, arith}
+use Rattle.std.proofs.Common.{◌≡◌, ℕ, ◌≢◌, get_or, set, sym, refl, ◌∙◌, subst, arith}
 use native.Mathlib.Decide.{ℕ_discrete}
-use Rattle.std.proofs.lemmas.List.{get_or_read}
 use Rattle.echelon.specs.Reduced.{Pivoted, at, figured}
 use Rattle.echelon.specs.Elimination.{pivot_cleared}
 use Rattle.record.specs.Rows.{pivoted, CodedRow}
@@ -9,45 +8,44 @@ use Rattle.record.specs.Judged.{SamePivoted}
 use Rattle.record.specs.declared.rows.RecordRow.{RecordRow}
 use Rattle.record.proofs.Views.{at_row, set_here, set_other, cleared-row, no_record_row}
 use Rattle.record.proofs.record.join.clear_rows.Goals as goal
+use Rattle.record.proofs.record.join.clear_rows.Goals.{At-loop-row}
+
+-- the row that the loop has come to, as it was
+untouched :
+    (g : _) (c : At-loop-row g)
+    → at (all_pivoted c.deref_mut-row-items.result.now) c.loop-row.row-index ≡ pivoted (get_or c.loop-row.row-items c.loop-row.row-index no_record_row)
+untouched g c = sym (c.loop-row.invariant.1 c.loop-row.row-index (omega arith)) ∙ at_row c.loop-row.row-items c.loop-row.row-index
 
 pub clear-requires : goal.clear-requires
 clear-requires g c =
     let M = g.F.Field.model in
-    let a = c.loop-a.a in
-    let x = c.index.result.now in
-    let inside : a < length (vec_items c.loop-a.rows) = omega (arith, c.loop-a.invariant.0, c.len-a-end.ensures) in
-    let is : at (all_pivoted (vec_items c.args.rows.now)) a ≡ pivoted x =
-    sym (c.loop-a.invariant.3 a (omega arith)) ∙ at_row (vec_items c.loop-a.rows) a
-    ∙ ap pivoted (sym (get_or_read _ a x inside c.index.ensures no_record_row)) in
+    let a = c.loop-row.row-index in
     record {
       few = c.requires.few;
       pivot = c.requires.pivot;
-      coded = subst (λ (p : Pivoted). CodedRow M c.args.n (figured p)) is (c.requires.coded a (omega (arith, c.len-a-end.ensures)));
+      coded = subst (λ (p : Pivoted). CodedRow M c.args.n (figured p)) (untouched g (goal.at.clear-requires g c).At-loop-row)
+          (subst (λ l. CodedRow M c.args.n (figured (at (all_pivoted l) a))) (sym c.deref_mut-row-items.ensures.value) (c.requires.coded a (omega (arith, c.deref_mut-row-items.ensures.len))));
       by_coded = c.requires.by_coded;
     }
 
-pub loop-a-preserved : goal.loop-a-preserved
-loop-a-preserved g c =
+pub loop-row-preserved : goal.loop-row-preserved
+loop-row-preserved g c =
     let M = g.F.Field.model in
-    let a = c.loop-a.a in
-    let x = c.index.result.now in
+    let items = c.loop-row.row-items in
+    let a = c.loop-row.row-index in
+    let x = get_or items a no_record_row in
     let e = pivoted c.args.by.now in
     let y : RecordRow = record { pivot = x.pivot; row = c.clear.new.self } in
-    let items = vec_items c.loop-a.rows in
-    let before = all_pivoted (vec_items c.args.rows.now) in
-    let inside : a < length items = omega (arith, c.loop-a.invariant.0, c.len-a-end.ensures) in
-    let is : at before a ≡ pivoted x =
-    sym (c.loop-a.invariant.3 a (omega arith)) ∙ at_row items a ∙ ap pivoted (sym (get_or_read _ a x inside c.index.ensures no_record_row)) in
+    let before = all_pivoted c.deref_mut-row-items.result.now in
+    let is = untouched g (goal.at.loop-row-preserved g c).At-loop-row in
     let here : SamePivoted c.args.n (at (all_pivoted (set items a y)) a) (pivot_cleared M e (at before a)) =
-    subst (λ (p : Pivoted). SamePivoted c.args.n p (pivot_cleared M e (at before a))) (sym (set_here items a y inside))
+    subst (λ (p : Pivoted). SamePivoted c.args.n p (pivot_cleared M e (at before a))) (sym (set_here items a y (omega arith)))
     (cleared-row M c.args.n e (at before a) x y is refl c.clear.ensures.is) in (
-      c.loop-a.invariant.0,
-      c.loop-a.invariant.1,
       λ b h.
           elim (ℕ_discrete b a) [
             | yes same ↦ subst (λ (k : ℕ). SamePivoted c.args.n (at (all_pivoted (set items a y)) k) (pivot_cleared M e (at before k))) (sym same) here
             | no ne ↦
-                subst (λ (p : Pivoted). SamePivoted c.args.n p (pivot_cleared M e (at before b))) (sym (set_other items a b y ne)) (c.loop-a.invariant.2 b (omega arith))
+                subst (λ (p : Pivoted). SamePivoted c.args.n p (pivot_cleared M e (at before b))) (sym (set_other items a b y ne)) (c.loop-row.invariant.0 b (omega arith))
           ],
-      λ b h. let ne : b ≢ a = omega arith in set_other items a b y ne ∙ c.loop-a.invariant.3 b (omega arith),
+      λ b h. let ne : b ≢ a = omega arith in set_other items a b y ne ∙ c.loop-row.invariant.1 b (omega arith),
     )

@@ -1,26 +1,41 @@
-use Rattle.std.proofs.Common.{◌≤◌, length, arith}
+use Rattle.std.proofs.Common.{rules, ◌≡◌, ◌<◌, ◌≤◌, ◌≢◌}
+use Rattle.std.proofs.lemmas.Iterator.{IsFirst-from_position, YieldsList-from_slice, cases_from_all}
+use borrow.Author.Tests.{tests}
 use Rattle.record.specs.Checks.{wrong_length, not_an_element, none_named, accepted}
-use Rattle.record.proofs.Checks.{none_stray}
+use Rattle.record.proofs.Checks.{FirstStray, first_stray, none_stray, AnyNamed, all_zero, one_named}
 use Rattle.record.proofs.rows.checks.check_row.Goals as goal
+use Rattle.record.proofs.rows.checks.check_row.Goals.{After-position, After-all}
 
 pub returns-then-weights-n : goal.returns-then-weights-n
 returns-then-weights-n g c = wrong_length c.if-weights-n.true
 
-pub returns-then-weight-size : goal.returns-then-weight-size
-returns-then-weight-size g c =
-    not_an_element c.if-weights-n.false c.loop-m.m
-    (record { holds = (c.loop-m-test.true, omega arith); none_below = c.loop-m.invariant.0 })
+stray : (g : _) (c : After-position g) → FirstStray g.F.Field.model c.args.weights.now c.position.result
+stray g c =
+    IsFirst-from_position _ _ _ (λ x. g.F.Field.model.size ≤ x.0) (λ x. x.0 < g.F.Field.model.size) c.position.ensures.ran
+    (YieldsList-from_slice c.args.weights.now c.iter.ensures.rest) (λ x q k. search (rules, tests)) (λ x q k. search (rules, tests))
 
-pub returns-then-named : goal.returns-then-named
-returns-then-named g c =
-    let ws = c.args.weights.now in
-    let whole : length ws ≤ c.loop-m.m = c.loop-m-test.false in
-    accepted c.if-weights-n.false (none_stray g.F.Field.model c.args.n ws c.if-weights-n.false (λ k h. c.loop-m.invariant.0 k (omega arith)))
-    (λ none. c.loop-m.invariant.2 c.if-named.true (λ k h. none k (omega arith)))
+named : (g : _) (c : After-all g) → AnyNamed g.F.Field.model c.args.weights.now c.all.result
+named g c =
+    cases_from_all _ _ _ (λ x. x.0 ≡ 0) (λ x. x.0 ≢ 0) c.all.ensures.ran (YieldsList-from_slice c.args.weights.now c.iter-2.ensures.rest)
+    (λ x q k. search (rules, tests)) (λ x q k. search (rules, tests))
 
-pub returns-else-named : goal.returns-else-named
-returns-else-named g c =
+pub returns-in-Some : goal.returns-in-Some
+returns-in-Some g c =
+    not_an_element c.if-weights-n.false c.in-Some.m
+    (first_stray g.F.Field.model c.args.weights.now _ _ c.in-Some.is (stray g (goal.at.returns-in-Some g c).After-position))
+
+pub returns-then-all : goal.returns-then-all
+returns-then-all g c =
+    let M = g.F.Field.model in
     let ws = c.args.weights.now in
-    let whole : length ws ≤ c.loop-m.m = c.loop-m-test.false in
-    none_named c.if-weights-n.false (none_stray g.F.Field.model c.args.n ws c.if-weights-n.false (λ k h. c.loop-m.invariant.0 k (omega arith)))
-    (λ k h. c.loop-m.invariant.1 c.if-named.false k (omega arith))
+    let start = goal.at.returns-then-all g c in
+    none_named c.if-weights-n.false (none_stray M ws _ c.in_default.not-Some (stray g start.After-position) _ c.if-weights-n.false)
+    (all_zero M ws _ c.if-all.true (named g start.After-all))
+
+pub returns : goal.returns
+returns g c =
+    let M = g.F.Field.model in
+    let ws = c.args.weights.now in
+    let start = goal.at.returns g c in
+    accepted c.if-weights-n.false (none_stray M ws _ c.in_default.not-Some (stray g start.After-position) _ c.if-weights-n.false)
+    (one_named M ws _ c.if-all.false (named g start.After-all))

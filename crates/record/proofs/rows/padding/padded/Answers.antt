@@ -1,0 +1,14 @@
+use Rattle.record.proofs.Padding.{padded_front, padded_rest, padded_each}
+use Rattle.record.proofs.rows.padding.padded.Goals as goal
+
+pub returns : goal.returns
+returns c =
+    let vs = c.args.weights.now in
+    let few = c.min-few.result in
+    let is = c.min-few.ensures in
+    let copied = c.copy_from_slice.ensures.after in
+    record {
+      front = λ h. padded_front vs few is _ copied h few;
+      each = λ m h. padded_each vs few is _ copied few m h;
+      rest = λ m h. padded_rest vs few is _ copied few m h;
+    }
