@@ -1,6 +1,7 @@
 -- What two searches through a row's weights tell: the first that is no element, and whether one names a member.
 -- Assumes nothing.
 use Rattle.std.proofs.Common.{◌≡◌, ℕ, ◌<◌, ◌≤◌, ◌≢◌, Bool, true, false, None, Some, Option, List, length, MatchOption, MatchBool, refl, subst, arith}
+use native.Mathlib.Decide.{dec_lt}
 use Rattle.std.specs.List.{AllWithin, HoldsAt}
 use Rattle.field.specs.Model.{FieldModel}
 use Rattle.field.specs.Sums.{Codes, weights_of}
@@ -10,6 +11,13 @@ use Rattle.record.specs.Checks.{StrayWeight, NoneNamed}
 
 abbrev none : Element
 none = record { 0 = 0 }
+
+-- weights of which none is stray are elements
+pub none_stray :
+    (M : FieldModel) (n : ℕ) (ws : List Element) → length ws ≡ n → ((k : ℕ) → k < length ws → StrayWeight M ws k → ⊥)
+    → Codes M n (weights_of ws)
+none_stray M n ws e none m h =
+    elim (dec_lt (weights_of ws m) M.size) [ yes k ↦ k | no k ↦ absurd (none m (omega arith) (omega arith, omega arith)) ]
 
 module _ (M : FieldModel) (ws : List Element) where
   abbrev pub FirstStray : Option ℕ → Type 0
@@ -22,9 +30,9 @@ module _ (M : FieldModel) (ws : List Element) where
       let found = subst FirstStray e first in
       record { holds = (found.0, found.1 none); none_below = λ k h stray. let small = found.2 k none (omega arith) h in omega (arith, stray.1, small) }
 
-  pub none_stray : (o : Option ℕ) → ((m : ℕ) → o ≡ Some m → ⊥) → FirstStray o → (n : ℕ) → length ws ≡ n → Codes M n (weights_of ws)
-  none_stray None not all n e = λ m h. all m none (omega arith) (omega (arith, e))
-  none_stray (Some i) not all n e = absurd (not i refl)
+  pub all_elements : (o : Option ℕ) → ((m : ℕ) → o ≡ Some m → ⊥) → FirstStray o → (n : ℕ) → length ws ≡ n → Codes M n (weights_of ws)
+  all_elements None not all n e = λ m h. all m none (omega arith) (omega (arith, e))
+  all_elements (Some i) not all n e = absurd (not i refl)
 
   abbrev pub AnyNamed : Bool → Type 0
   AnyNamed b =

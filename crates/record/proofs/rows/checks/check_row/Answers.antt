@@ -2,7 +2,7 @@ use Rattle.std.proofs.Common.{rules, ◌≡◌, ◌<◌, ◌≤◌, ◌≢◌}
 use Rattle.std.proofs.lemmas.Iterator.{IsFirst-from_position, YieldsList-from_slice, cases_from_all}
 use borrow.Author.Tests.{tests}
 use Rattle.record.specs.Checks.{wrong_length, not_an_element, none_named, accepted}
-use Rattle.record.proofs.Checks.{FirstStray, first_stray, none_stray, AnyNamed, all_zero, one_named}
+use Rattle.record.proofs.Checks.{FirstStray, first_stray, all_elements, AnyNamed, all_zero, one_named}
 use Rattle.record.proofs.rows.checks.check_row.Goals as goal
 use Rattle.record.proofs.rows.checks.check_row.Goals.{After-position, After-all}
 
@@ -29,7 +29,7 @@ returns-then-all g c =
     let M = g.F.Field.model in
     let ws = c.args.weights.now in
     let start = goal.at.returns-then-all g c in
-    none_named c.if-weights-n.false (none_stray M ws _ c.in_default.not-Some (stray g start.After-position) _ c.if-weights-n.false)
+    none_named c.if-weights-n.false (all_elements M ws _ c.in_default.not-Some (stray g start.After-position) _ c.if-weights-n.false)
     (all_zero M ws _ c.if-all.true (named g start.After-all))
 
 pub returns : goal.returns
@@ -37,5 +37,5 @@ returns g c =
     let M = g.F.Field.model in
     let ws = c.args.weights.now in
     let start = goal.at.returns g c in
-    accepted c.if-weights-n.false (none_stray M ws _ c.in_default.not-Some (stray g start.After-position) _ c.if-weights-n.false)
+    accepted c.if-weights-n.false (all_elements M ws _ c.in_default.not-Some (stray g start.After-position) _ c.if-weights-n.false)
     (one_named M ws _ c.if-all.false (named g start.After-all))
