@@ -1,6 +1,6 @@
-// A call of a session, and its reply, as a list of calls has them.
+// A call of a session, and the reply to one that is not refused, as a list of calls has them.
 use field::Element;
-use refusal::{Member, Refusal};
+use refusal::Member;
 
 pub enum Call<'a> {
     Submit(&'a [Element]),
@@ -17,5 +17,4 @@ pub enum Reply {
     TakenBack,
     // What the buffer then holds, 0 past its end.
     Fills([Element; 64]),
-    Refuses(Refusal),
 }

@@ -9,6 +9,7 @@ ghost use Rattle.session.specs.Runs.{history, AllZeroPast};
 use crate::calls::{Call, Reply};
 use crate::session::Session;
 use record::Room;
+use refusal::Refusal;
 use server::Server;
 use std::alloc::{AllocError, Global};
 
@@ -19,7 +20,7 @@ pub fn run<S: Server + Drop>(
     heap: Global,
     server: S,
     calls: &[Call],
-) -> Result<Vec<Reply>, AllocError>
+) -> Result<Vec<Result<Reply, Refusal>>, AllocError>
     ensures lawful { IfOk result (λ v. (vec_len v ≡ length calls.now) × Lawful S.Over.Field.model (length (S.Server.table server)) (value_at (S.Server.table server)) new_session (history (length (S.Server.table server)) calls.now v.items)) }
     ensures past { IfOk result (λ v. AllZeroPast (length (S.Server.table server)) v.items) }
     ensures exact { JudgingIsExact }
@@ -32,8 +33,7 @@ pub fn run<S: Server + Drop>(
     replies.reserve(calls.len())?;
     let mut session = Session::new(server, room);
     for call in calls {
-        let reply = session.reply_to(call);
-        replies.push_reserved(reply);
+        replies.push_reserved(session.reply_to(call));
     }
     Ok(replies)
 }

@@ -1,28 +1,27 @@
 // The calls of a session, with permits told by their number.
-ghost use Rattle.std.specs.Prelude.{◌≡◌, ℕ, ◌≤◌, length, take, MatchResult};
-ghost use Rattle.field.specs.Sums.{weights_of};
+ghost use Rattle.std.specs.Prelude.{◌≡◌, ◌≢◌, length, Some, MatchResult};
+ghost use Rattle.refusal.specs.declared.Refusal.TheVariants.{NotTheOpenPermit};
 ghost use Rattle.server.specs.Tables.{codes};
 ghost use Rattle.history.specs.Events.{submits, answers, withdraws, witnesses};
+ghost use Rattle.session.specs.declared.session.OpenRow.{OpenRow};
 ghost use Rattle.session.specs.Views.{Steps, permit_reply, figure_reply, withdrawal_reply, witness_reply_lem};
 
 use crate::session::{OpenRow, Session};
 use field::Element;
-use record::Judgement;
+use record::{Judgement, padded};
 use refusal::{Member, Refusal, Site};
 use server::{Server, row_sum};
 
-// Some weights, and 0 in the rest of 64 places.
-fn padded(weights: &[Element]) -> [Element; 64]
-    requires few { length weights.now ≤ 64 }
-    ensures front { take (length weights.now) result ≡ weights.now }
-    ensures rest { (m : ℕ) → length weights.now ≤ m → weights_of result m ≡ 0 }
-{
-    let mut row = [Element(0); 64];
-    row[0..weights.len()].copy_from_slice(weights);
-    row
-}
-
 impl<S: Server> Session<S> {
+    // The open row, where the number is its permit's.
+    fn open_row(&self, number: u16) -> Result<OpenRow, Refusal>
+        ensures { MatchResult result (λ row. (self.now.pending ≡ Some row) × (row.permit ≡ number)) (λ e. (e ≡ NotTheOpenPermit) × ((p : OpenRow) → self.now.pending ≡ Some p → p.permit ≢ number)) }
+    {
+        self.pending
+            .filter(|row| row.permit == number)
+            .ok_or(Refusal::NotTheOpenPermit)
+    }
+
     // Judges a row, and opens it under the next permit number.
     pub(crate) fn submit_row(&mut self, weights: &[Element]) -> Result<u16, Refusal>
         ensures server { self.new.server ≡ self.old.server }
@@ -53,17 +52,10 @@ impl<S: Server> Session<S> {
         ensures kept { MatchResult result (λ _. self.new.issued ≡ self.old.issued) (λ _. self.new ≡ self.old) }
         ensures law { Steps S.Over.Field.model (S.Server.table self.old.server) self.old (answers number) (figure_reply result) self.new }
     {
-        let Some(row) = self.pending else {
-            return Err(Refusal::NotTheOpenPermit);
-        };
-        if row.permit != number {
-            return Err(Refusal::NotTheOpenPermit);
-        }
-        let weights = &row.weights[0..self.record.count()];
+        let row = self.open_row(number)?;
+        let weights = &row.weights[..self.record.count()];
         let figure = row_sum(&self.server, weights);
-        if self.record.admit(weights, figure).is_err() {
-            unreachable()
-        }
+        self.record.admit(weights, figure).unwrap();
         self.pending = None;
         Ok(figure)
     }
@@ -74,12 +66,7 @@ impl<S: Server> Session<S> {
         ensures kept { MatchResult result (λ _. (self.new.record ≡ self.old.record) × (self.new.issued ≡ self.old.issued)) (λ _. self.new ≡ self.old) }
         ensures law { Steps S.Over.Field.model (S.Server.table self.old.server) self.old (withdraws number) (withdrawal_reply result) self.new }
     {
-        let Some(row) = self.pending else {
-            return Err(Refusal::NotTheOpenPermit);
-        };
-        if row.permit != number {
-            return Err(Refusal::NotTheOpenPermit);
-        }
+        self.open_row(number)?;
         self.pending = None;
         Ok(())
     }

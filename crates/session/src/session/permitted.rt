@@ -18,10 +18,7 @@ impl<S: Server> Session<S> {
         ensures kept { MatchResult result (λ _. self.new.record ≡ self.old.record) (λ _. self.new ≡ self.old) }
         ensures law { Steps S.Over.Field.model (S.Server.table self.old.server) self.old (submits weights.now) (submit_reply result) self.new }
     {
-        match self.submit_row(weights) {
-            Ok(number) => Ok(Permit::issue(number)),
-            Err(e) => Err(e),
-        }
+        self.submit_row(weights).map(Permit::issue)
     }
 
     // Spends the open permit: answers the figure over the server, and the row joins the record.

@@ -47,8 +47,8 @@ loop-call-preserved g c =
     let inv = c.loop-call.invariant in
     let i = c.loop-call.call-index in
     let x = c.loop-call.session in
-    let x' = c.reply_to-reply.new.self in
-    let r = c.reply_to-reply.result in
+    let x' = c.reply_to.new.self in
+    let r = c.reply_to.result in
     let calls = c.args.calls.now in
     let replies = vec_items c.loop-call.replies in
     let same : x.server ≡ c.new-session.result.server = inv.0 in
@@ -61,18 +61,18 @@ loop-call-preserved g c =
     let stood : Holds M T x new_session before = subst (λ (l : List ℕ). Holds M l x new_session before) (sym tables) inv.3 in
     let stands : Holds M T₀ x' new_session (record { call = call_of call; reply = reply_of (length T₀) r } ∷ before) =
     subst (λ (l : List ℕ). Holds M l x' new_session (record { call = call_of call; reply = reply_of (length l) r } ∷ before)) tables
-    (c.reply_to-reply.ensures.law new_session before stood).1 in
+    (c.reply_to.ensures.law new_session before stood).1 in
     let count : length (take i calls) ≡ length replies =
     length-take i calls ∙ omega (arith, inv.1, c.loop-call.replies.ok.0, c.loop-call-test.true) in
     let grown : history (length T₀) (take (i + 1) calls) (vec_items c.push_reserved.new.self) ≡ record { call = call_of call; reply = reply_of (length T₀) r } ∷ before =
     ap₂ (history (length T₀)) (take_more calls i no_call c.loop-call-test.true) c.push_reserved.ensures.items
     ∙ onto_more (length T₀) [] (take i calls) replies call r count in (
-      c.reply_to-reply.ensures.server ∙ same,
+      c.reply_to.ensures.server ∙ same,
       c.push_reserved.ensures.len ∙ ap (λ k. k + 1) inv.1,
       omega (arith, inv.2, c.push_reserved.ensures.capacity),
       subst (Holds M T₀ x' new_session) (sym grown) stands,
       subst (AllZeroPast (length T₀)) (sym c.push_reserved.ensures.items)
-          (past_more (length T₀) replies r inv.4 (subst (λ (l : List ℕ). ZeroPast (length l) r) tables c.reply_to-reply.ensures.past)),
+          (past_more (length T₀) replies r inv.4 (subst (λ (l : List ℕ). ZeroPast (length l) r) tables c.reply_to.ensures.past)),
     )
 
 pub returns : goal.returns

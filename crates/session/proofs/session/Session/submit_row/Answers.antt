@@ -71,13 +71,6 @@ returns-in-Pinning g c =
           submit_disclosing_steps M g.met.S.Over.Field.laws T x ws (sym c.is_some.ensures ∙ c.if-is_some.false) left c.in-Pinning.i.0 passed low;
     }
 
-pub padded-requires : goal.padded-requires
-padded-requires g c =
-    let x = c.args.self.now in
-    let few = x.record.members.1 in
-    let size = row_length_lem g.S.Over.Field.model _ _ c.in_ok-i.ensures.0 in
-    omega arith
-
 -- what is known of a row that was judged free
 passed_row :
     (g : _) (c : After-padded g)
@@ -97,8 +90,10 @@ free_row g c =
 
 cut_row : (g : _) (c : After-padded g) → take (length (g.S.Server.table c.args.self.now.server)) c.padded.result ≡ c.args.weights.now
 cut_row g c =
-    let T = g.S.Server.table c.args.self.now.server in
-    ap (λ k. take k c.padded.result) (sym (row_length_lem g.S.Over.Field.model (length T) c.args.weights.now (passed_row g c))) ∙ c.padded.ensures.front
+    let x = c.args.self.now in
+    let T = g.S.Server.table x.server in
+    let long = row_length_lem g.S.Over.Field.model (length T) c.args.weights.now (passed_row g c) in
+    ap (λ k. take k c.padded.result) (sym long) ∙ c.padded.ensures.front (omega (arith, long, x.counted, x.record.members.1))
 
 pub invariant_of-self : goal.invariant_of-self
 invariant_of-self g c =

@@ -1,5 +1,6 @@
-use Rattle.std.proofs.Common.{◌≡◌, ℕ, ◌-◌, ◌≤◌, List, length, Some, None, sym, ◌∙◌, subst, inl, inr, arith}
+use Rattle.std.proofs.Common.{◌≡◌, ℕ, ◌≤◌, List, length, Some, None, sym, ◌∙◌, subst, inl, inr, arith}
 use Rattle.std.proofs.lemmas.List.{take_at}
+use Rattle.std.proofs.lemmas.Result.{err_from_is_err_and}
 use Rattle.field.specs.Sums.{weights_of}
 use Rattle.field.specs.declared.Element.{Element}
 use Rattle.echelon.specs.Witness.{Witness}
@@ -9,7 +10,8 @@ use Rattle.history.specs.Events.{witnesses, fills}
 use Rattle.server.specs.Tables.{codes}
 use Rattle.session.specs.Views.{Steps}
 use Rattle.session.proofs.Steps.{witness-refused-steps, witness_filled_steps}
-use Rattle.session.proofs.Padded.{part, zero_past}
+use Rattle.record.proofs.Padding.{zero_past}
+use Rattle.session.proofs.Padded.{part}
 use Rattle.session.proofs.Witnessed.{Own, own-check, buffer-length}
 use Rattle.session.proofs.session.Session.witness_reply.Goals as goal
 use Rattle.session.proofs.session.Session.witness_reply.Goals.{Joined-buffer-le64, then-buffer-le64, else-buffer-le64}
@@ -28,17 +30,17 @@ own-few g c =
       | else-buffer-le64 w ↦ omega (arith, w.own-is)
     ]
 
-pub returns-in-Ok : goal.returns-in-Ok
-returns-in-Ok g c =
+pub returns : goal.returns
+returns g c =
     let M = g.S.Over.Field.model in
     let L = g.met.S.Over.Field.laws in
     let x = c.args.self.now in
     let T = g.S.Server.table x.server in
-    let here = (goal.at.returns-in-Ok g c).Joined-buffer-le64 in
+    let here = (goal.at.returns g c).Joined-buffer-le64 in
     let own = c.if-buffer-le64.own in
     let i = c.args.member.0 in
     let a = c.args.element.0 in
-    let facts = c.in-Ok.ensures in
+    let facts = c.in_ok-witness.ensures in
     let members = x.record.members in
     let passed : WitnessCheck M x.record.count i a own None = subst (λ (l : ℕ). WitnessCheck M x.record.count i a l None) (part _ own (own-few g here)) facts.0 in
     let counted : own ≡ x.record.count = buffer-length M _ i a own passed in
@@ -49,24 +51,25 @@ returns-in-Ok g c =
     subst (λ (n : ℕ). Witness M n (rec_of x.record) i a (weights_of c.witness.new.out)) c.args.self.now.counted facts.1 in
     let long : length c.witness.new.out ≡ length T = c.witness.auto.out ∙ part _ own (own-few g here) ∙ counted ∙ c.args.self.now.counted in
     record {
-      past = zero_past c.witness.new.out (length T) (own - 0) long;
+      past = zero_past c.witness.new.out (length T) own long;
       law = subst (λ (ws : List Element). Steps M T x (witnesses i a c.args.buffer) (fills (codes ws)) x) (sym (take_at c.witness.new.out _ (length T) long)) (witness_filled_steps M L T x i a c.args.buffer c.witness.new.out brought long made);
     }
 
-pub returns-in-Err : goal.returns-in-Err
-returns-in-Err g c =
+pub returns-in_err-witness : goal.returns-in_err-witness
+returns-in_err-witness g c =
+    let p = err_from_is_err_and c.from_residual.result c.from_residual.ensures.1 in
     let M = g.S.Over.Field.model in
     let x = c.args.self.now in
     let T = g.S.Server.table x.server in
-    let here = (goal.at.returns-in-Err g c).Joined-buffer-le64 in
+    let here = (goal.at.returns-in_err-witness g c).Joined-buffer-le64 in
     let own = c.if-buffer-le64.own in
     let i = c.args.member.0 in
     let a = c.args.element.0 in
-    let e = c.in-Err.e in
+    let e = c.in_err-witness.field-0.0 in
     let members = x.record.members in
     let fails : WitnessCheck M x.record.count i a own (Some e) =
-    subst (λ (l : ℕ). WitnessCheck M x.record.count i a l (Some e)) (part _ own (own-few g here)) c.in-Err.ensures.0 in
+    subst (λ (l : ℕ). WitnessCheck M x.record.count i a l (Some e)) (part _ own (own-few g here)) c.in_err-witness.ensures.0 in
     let brought : WitnessCheck M (length T) i a c.args.buffer (Some e) =
     subst (λ (n : ℕ). WitnessCheck M n i a c.args.buffer (Some e)) c.args.self.now.counted
     (own-check M x.record.count i a own c.args.buffer (Some e) members.0 members.1 (own-buffer g here) fails) in
-    record { past = tt; law = witness-refused-steps M g.met.S.Over.Field.laws T x i a c.args.buffer e brought }
+    rw (p.1, p.2) (record { past = tt; law = witness-refused-steps M g.met.S.Over.Field.laws T x i a c.args.buffer e brought })
