@@ -1,13 +1,24 @@
 // What a field is, for all that is written once over every field: its elements, its operations and their laws.
 #![tactic(auto)]
 
-ghost use Rattle.std.specs.Prelude.{◌≡◌, ℕ, ◌+◌, ◌<◌, ◌≤◌, ◌++◌, length, drop, MatchOption, slice_index};
+ghost use Rattle.std.specs.Prelude.{◌≡◌, ℕ, ◌+◌, ◌<◌, ◌≤◌, ◌++◌, length, drop, Some, MatchOption, slice_index, decimal};
 ghost use Rattle.field.specs.Model.{FieldModel, FieldLaws};
 ghost use Rattle.field.specs.Bytes.{width, written, code_at};
+
+use std::fmt;
 
 // The code of a field's element. A field's elements are the codes below its size.
 #[derive(Clone, Copy, PartialEq, Eq, PartialOrd, Ord, Debug)]
 pub struct Element(pub u32);
+
+// An element is printed as its code, in decimal.
+impl fmt::Display for Element {
+    ghost output = { λ e. Some (decimal e.0) };
+
+    fn fmt<W: fmt::Write>(&self, f: &mut fmt::Formatter<W>) -> fmt::Result {
+        fmt::Display::fmt(&self.0, f)
+    }
+}
 
 // The operations ask nothing: a code past the size gets an answer too, the model's, below the size.
 pub trait Field {
