@@ -15,7 +15,7 @@ pub struct Amounts;
 fn reduced(n: u64) -> Element
     ensures { result.0 ≡ n % 65521 }
 {
-    Element((n % 65521) as u32)
+    Element((n % u64::from(SIZE)) as u32)
 }
 
 // Whether both codes are below the size, as they are in checked data. Their sum and product then need 32 bits.
@@ -65,16 +65,12 @@ impl Field for Amounts {
 
     // Each turn keeps `a` times `factor` equal to `rest`, modulo the size, until `rest` is 1.
     fn inv(a: Element) -> Element {
-        let mut factor = 1u32;
+        let mut factor = Element(1);
         let mut rest = a.0 % SIZE;
         while rest > 1 {
-            factor = (u64::from(factor) * u64::from(SIZE - SIZE / rest) % 65521) as u32;
+            factor = Self::mul(factor, Element(SIZE - SIZE / rest));
             rest = SIZE % rest;
         }
-        if rest == 0 {
-            Element(0)
-        } else {
-            Element(factor)
-        }
+        if rest == 0 { Element(0) } else { factor }
     }
 }

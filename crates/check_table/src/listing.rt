@@ -11,15 +11,7 @@ use std::io;
 fn stored<S: Server>(server: &S, m: Member) -> Option<Element>
     ensures { MatchOption result (value_at (S.table server.now) m.0 ≡ 0) (λ e. (e.0 ≡ value_at (S.table server.now) m.0) × (e.0 ≢ 0)) }
 {
-    match server.value(m) {
-        Some(value) => {
-            if value.0 == 0 {
-                return None;
-            }
-            Some(value)
-        }
-        None => None,
-    }
+    server.value(m).filter(|value| *value != Element(0))
 }
 
 // The number of members, then a line for each stored value, by rising member.
@@ -28,8 +20,7 @@ pub(crate) fn print<S: Server>(rt: &HostRuntime, server: &S) -> io::Result<()> {
     println!(rt; "members {members}")?;
     for m in 0..members {
         if let Some(value) = stored(server, Member(m)) {
-            let code = value.0;
-            println!(rt; "{m} {code}")?;
+            println!(rt; "{m} {value}")?;
         }
     }
     Ok(())

@@ -16,19 +16,16 @@ fn report<F: Field>(rt: &HostRuntime, field: &str, bytes: &[u8]) -> io::Result<(
             println!(rt; "field {field}")?;
             listing::print(rt, &table)
         }
-        Err(refusal) => {
-            let number = refusal.number();
-            let detail = refusal.detail();
-            println!(rt; "- {number} {detail}")
-        }
+        Err(refusal) => println!(rt; "- {} {}", refusal.number(), refusal.detail()),
     }
 }
 
 // The kind byte chooses the field. Any kind but that of ticks is taken as amounts.
 fn check(rt: &HostRuntime, bytes: &[u8]) -> io::Result<()> {
-    match bytes.first() {
-        Some(kind) if *kind == Ticks::kind() => report::<Ticks>(rt, "ticks", bytes),
-        _ => report::<Amounts>(rt, "amounts", bytes),
+    if bytes.first() == Some(&Ticks::kind()) {
+        report::<Ticks>(rt, "ticks", bytes)
+    } else {
+        report::<Amounts>(rt, "amounts", bytes)
     }
 }
 

@@ -1,13 +1,24 @@
 // What a field is, for all that is written once over every field: its elements, its operations and their laws.
 #![tactic(auto)]
 
-ghost use Rattle.std.specs.Prelude.{◌≡◌, ℕ, ◌+◌, ◌<◌, ◌≤◌, ◌++◌, length, drop, MatchOption, slice_index};
+ghost use Rattle.std.specs.Prelude.{◌≡◌, ℕ, ◌+◌, ◌<◌, ◌≤◌, ◌++◌, length, drop, Some, MatchOption, slice_index, decimal};
 ghost use Rattle.field.specs.Model.{FieldModel, FieldLaws};
 ghost use Rattle.field.specs.Bytes.{width, written, code_at};
+
+use std::fmt;
 
 // The code of a field's element. A field's elements are the codes below its size.
 #[derive(Clone, Copy, PartialEq, Eq, PartialOrd, Ord, Debug)]
 pub struct Element(pub u32);
+
+// An element is printed as its code, in decimal.
+impl fmt::Display for Element {
+    ghost output = { λ e. Some (decimal e.0) };
+
+    fn fmt<W: fmt::Write>(&self, f: &mut fmt::Formatter<W>) -> fmt::Result {
+        fmt::Display::fmt(&self.0, f)
+    }
+}
 
 // The operations ask nothing: a code past the size gets an answer too, the model's, below the size.
 pub trait Field {
@@ -46,14 +57,10 @@ pub fn element_width<F: Field>() -> usize
     if F::size() <= 256 { 1 } else { 2 }
 }
 
-fn byte_at(bytes: &[u8], at: usize) -> u32
-    ensures is { result ≡ slice_index bytes.now at }
-    ensures within { result < 256 }
+fn byte_at(bytes: &[u8], at: usize) -> u8
+    ensures { result ≡ slice_index bytes.now at }
 {
-    match bytes.get(at) {
-        Some(byte) => u32::from(*byte),
-        None => 0,
-    }
+    bytes.get(at).copied().unwrap_or(0)
 }
 
 // The code that stands in the bytes from a place on, where missing bytes count as 0. It may stand for no element.
@@ -62,9 +69,10 @@ pub fn decode<F: Field>(bytes: &[u8], at: usize) -> Element
 {
     let first = byte_at(bytes, at);
     if F::size() <= 256 {
-        return Element(first);
+        return Element(u32::from(first));
     }
-    Element(first * 256 + byte_at(bytes, at.saturating_add(1)))
+    let second = byte_at(bytes, at.saturating_add(1));
+    Element(u32::from(u16::from_be_bytes([first, second])))
 }
 
 // Writes an element's bytes to the front of `out`, and answers how many. Where it is no element, or there is too
@@ -75,17 +83,8 @@ pub fn encode<F: Field>(e: Element, out: &mut [u8]) -> Option<usize>
     if e.0 >= F::size() {
         return None;
     }
-    if F::size() <= 256 {
-        if out.len() < 1 {
-            return None;
-        }
-        out[0] = e.0 as u8;
-        return Some(1);
-    }
-    if out.len() < 2 {
-        return None;
-    }
-    out[0] = (e.0 / 256) as u8;
-    out[1] = (e.0 % 256) as u8;
-    Some(2)
+    let width = element_width::<F>();
+    let (front, _) = out.split_at_mut_checked(width)?;
+    front.copy_from_slice(&(e.0 as u16).to_be_bytes()[2 - width..]);
+    Some(width)
 }

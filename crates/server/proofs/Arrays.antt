@@ -1,8 +1,7 @@
 -- The checks of an array, from what its maker finds in the slice. Assumes nothing.
 use Rattle.std.proofs.Common.{◌≡◌, ℕ, ◌<◌, ◌≤◌, List, length, get_or, Some, None, refl, arith}
 use native.Mathlib.Decide.{dec_lt}
-use lib.ListN.{length-map}
-use Rattle.std.proofs.lemmas.List.{get_or-map}
+use Rattle.std.proofs.Math.ListN.{length-map, get_or-map}
 use Rattle.refusal.specs.declared.Refusal.TheVariants.{WrongCount, NotAnElement}
 use Rattle.refusal.specs.declared.Site.TheVariants.{OfMember}
 use Rattle.field.specs.Model.{FieldModel}
@@ -11,9 +10,9 @@ use Rattle.server.specs.Tables.{Table, value_at, codes, listed}
 use Rattle.server.specs.Checks.{Count, Stray, ArrayCheck, wrong_count, not_an_element, accepted}
 use Rattle.server.proofs.Listed.{listed_is}
 
--- element m of a slice, as its code reads in the list of codes
-pub code_at : (es : List Element) (m : ℕ) → m < length es → get_or (codes es) m 0 ≡ (get_or es m (record { 0 = 0 })).0
-code_at es m h = get_or-map (λ e. e.0) es m (record { 0 = 0 }) 0 h
+-- element m of a slice, as its code reads in the list of codes, 0 past the last
+pub code_at : (es : List Element) (m : ℕ) → get_or (codes es) m 0 ≡ (get_or es m (record { 0 = 0 })).0
+code_at es m = get_or-map (λ e. e.0) es m (record { 0 = 0 })
 
 module _ (M : FieldModel) (es : List Element) where
   same_length : length (codes es) ≡ length es
@@ -23,10 +22,10 @@ module _ (M : FieldModel) (es : List Element) where
   wrong h = wrong_count (λ k. h (rw same_length at k))
 
   pub is_stray : (m : ℕ) → m < length es → M.size ≤ (get_or es m (record { 0 = 0 })).0 → Stray M (codes es) m
-  is_stray m h past = (rw same_length h, rw (code_at es m h) past)
+  is_stray m h past = (rw same_length h, rw (code_at es m) past)
 
   pub not_stray : (m : ℕ) → m < length es → (get_or es m (record { 0 = 0 })).0 < M.size → Stray M (codes es) m → ⊥
-  not_stray m h within s = let past = rw (code_at es m h) at s.1 in omega arith
+  not_stray m h within s = let past = rw (code_at es m) at s.1 in omega arith
 
   pub stray :
       (m : ℕ) → Count (length es) → m < length es → M.size ≤ (get_or es m (record { 0 = 0 })).0

@@ -1,9 +1,10 @@
 // Servers: what the survey asks for its members' elements. Three makes of server, and the sum of a row over any of them.
 #![tactic(auto)]
 
-ghost use Rattle.std.specs.Prelude.{◌≡◌, ℕ, ◌<◌, ◌≤◌, min, max, List, length, MatchOption, slice_index};
+ghost use Rattle.std.specs.Prelude.{◌≡◌, ℕ, ◌<◌, ◌≤◌, min, max, List, length, Decides, MatchOption, slice_index};
 ghost use Rattle.field.specs.Sums.{sum, weights_of};
 ghost use Rattle.server.specs.Tables.{Table, value_at, bounded, element_or_zero_lem};
+ghost use Rattle.server.specs.Checks.{Count};
 
 use field::{Element, Field};
 use refusal::Member;
@@ -36,6 +37,7 @@ pub fn row_sum<S: Server>(server: &S, row: &[Element]) -> Element
 {
     let members = server.count();
     let mut total = Element(0);
+    // The form that the project fixes for this sum: a `for`, with the count of the members beside it.
     let mut member = 0;
     for weight in row {
         if member == members {
@@ -51,11 +53,18 @@ pub fn row_sum<S: Server>(server: &S, row: &[Element]) -> Element
     total
 }
 
+// Whether a server may have so many members: 1 to 64.
+pub fn is_count(k: usize) -> bool
+    ensures { Decides result (Count k) }
+{
+    (1..=64).contains(&k)
+}
+
 // A count that every server may answer, 1 to 64: the given one wherever it is such.
 pub fn bounded_count(k: usize) -> usize
     ensures { result ≡ bounded k }
 {
-    k.min(64).max(1)
+    k.clamp(1, 64)
 }
 
 // An element that every server may answer: the given one wherever it is an element.

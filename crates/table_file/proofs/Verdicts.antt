@@ -1,42 +1,33 @@
 -- What makes a member's stored code faulty or not, and what an accepted file means. Assumes nothing.
-use Rattle.std.proofs.Common.{◌≡◌, ℕ, ◌<◌, ◌≤◌, Bool, true, false, ◌⊎◌, List, length, get_or, Some, None, sym, refl, ap, ◌∙◌, subst, inl, inr, ⊎_elim, true≢false, zero-add, arith}
+use Rattle.std.proofs.Common.{◌≡◌, ℕ, ◌<◌, ◌≤◌, Bool, true, false, ◌⊎◌, List, length, get_or, Some, None, sym, refl, ap, ◌∙◌, inl, inr, ⊎_elim, true≢false, zero-add, arith}
 use native.Mathlib.Decide.{dec_lt}
-use Rattle.std.proofs.lemmas.List.{take_rest}
 use Rattle.std.proofs.lemmas.List.FromFn.{length-map-range_with_len, get_or-map-range_with_len}
-use Rattle.refusal.specs.declared.Refusal.TheVariants.{NotAnElement, StoredZero}
+use Rattle.refusal.specs.declared.Refusal.{Refusal}
+use Rattle.refusal.specs.declared.Site.{Site}
 use Rattle.refusal.specs.declared.Site.TheVariants.{OfMember}
 use Rattle.field.specs.Model.{FieldModel, FieldLaws}
+use Rattle.field.specs.Bytes.{code_at}
 use Rattle.field.proofs.Zero.{zero-code}
 use Rattle.server.specs.Checks.{Lowest}
 use Rattle.server.specs.Tables.{Table, listed}
 use Rattle.server.proofs.Listed.{listed_is}
-use Rattle.member_map.specs.Maps.{named, Stray}
-use Rattle.table_file.specs.Files.{count_of, map_of, file_value, file_table, Framed, Faulty, FileCheck, not_an_element, stored_zero, accepted}
-use Rattle.table_file.proofs.Places.{rest, value_unnamed}
+use Rattle.member_map.specs.Maps.{named}
+use Rattle.table_file.specs.Files.{count_of, map_of, value_place, file_value, file_table, Framed, Faulty, FileCheck, no_header, wrong_kind, wrong_count, not_an_element, stored_zero, accepted}
+use Rattle.stored.specs.Stored.{CountCheck, ValueCheck, no_header, wrong_kind, wrong_count, not_an_element, stored_zero, accepted}
 
-module _ (M : FieldModel) (bs : List ℕ) (n : ℕ) (counted : n ≡ count_of bs) where
-  -- the stray bits that the code finds behind the header are those of the map
-  stray_of : (b : ℕ) → Stray (rest M bs) n b → Stray (map_of bs) (count_of bs) b
-  stray_of b s =
-      subst (λ (k : ℕ). Stray (map_of bs) k b) counted (subst (λ (map : List ℕ). Stray map n b) (take_rest bs 2) s)
-
-  stray_back : (b : ℕ) → Stray (map_of bs) (count_of bs) b → Stray (rest M bs) n b
-  stray_back b s =
-      subst (λ (map : List ℕ). Stray map n b) (sym (take_rest bs 2))
-      (subst (λ (k : ℕ). Stray (map_of bs) k b) (sym counted) s)
-
-  pub lowest-stray :
-      (b : ℕ) → Stray (rest M bs) n b × ((m : ℕ) → m < b → Stray (rest M bs) n m → ⊥)
-      → Lowest (Stray (map_of bs) (count_of bs)) b
-  lowest-stray b low = record { holds = stray_of b low.0; none_below = λ m h s. low.1 m h (stray_back m s) }
-
-  pub none_stray :
-      ((b : ℕ) → Stray (rest M bs) n b → ⊥) → (b : ℕ) → Stray (map_of bs) (count_of bs) b → ⊥
-  none_stray none b s = none b (stray_back b s)
+-- what the header's check says of a file
+module _ (M : FieldModel) (bs : List ℕ) where
+  pub header_refused : (e : Refusal) → CountCheck M bs (Some e) → FileCheck M bs (Some e)
+  header_refused _ (no_header h) = no_header h
+  header_refused _ (wrong_kind h k) = wrong_kind h k
+  header_refused _ (wrong_count h k n) = wrong_count h k n
 
 module _ (M : FieldModel) (bs : List ℕ) where
-  pub no_fault : (m : ℕ) → file_value M bs m < M.size → (file_value M bs m ≡ 0 → ⊥) → Faulty M bs m → ⊥
-  no_fault m below stored f = ⊎_elim (λ past. omega arith) stored f.2
+  pub no_fault : (m e : ℕ) (s : Site) → e ≡ file_value M bs m → ValueCheck M e s None → Faulty M bs m → ⊥
+  no_fault m e s code (accepted below stored) f = ⊎_elim (λ past. omega arith) (λ z. stored (code ∙ z)) f.2
+
+  value_unnamed : (m : ℕ) → named (map_of bs) m ≡ false → file_value M bs m ≡ 0
+  value_unnamed m e = ap (λ b. elim b [ true ↦ code_at M bs (value_place M bs m) | false ↦ 0 ]) e
 
   pub unnamed_no_fault : (m : ℕ) → named (map_of bs) m ≡ false → Faulty M bs m → ⊥
   unnamed_no_fault m e f = true≢false (sym f.1 ∙ e)
@@ -50,11 +41,10 @@ module _ (M : FieldModel) (bs : List ℕ) where
     lowest : (M.size ≤ file_value M bs k) ⊎ (file_value M bs k ≡ 0) → Lowest (Faulty M bs) k
     lowest why = record { holds = (omega arith, bit, why); none_below = λ j l. before j (omega arith) }
 
-    pub past_size : M.size ≤ e → FileCheck M bs (Some (NotAnElement (OfMember (record { 0 = k }))))
-    past_size p = let past : M.size ≤ file_value M bs k = rw code_is p in not_an_element fr k (lowest (inl past)) past
-
-    pub zero_stored : e ≡ 0 → FileCheck M bs (Some (StoredZero (OfMember (record { 0 = k }))))
-    zero_stored z = stored_zero fr k (lowest (inr (code_is ∙ z))) (code_is ∙ z)
+    pub value_refused : (r : Refusal) → ValueCheck M e (OfMember (record { 0 = k })) (Some r) → FileCheck M bs (Some r)
+    value_refused _ (not_an_element p) =
+        let past : M.size ≤ file_value M bs k = rw code_is p in not_an_element fr k (lowest (inl past)) past
+    value_refused _ (stored_zero below z) = stored_zero fr k (lowest (inr (code_is ∙ z))) (code_is ∙ z)
 
   -- every code that an accepted file means is an element
   value_below : FieldLaws M → ((m : ℕ) → Faulty M bs m → ⊥) → (m : ℕ) → m < count_of bs → file_value M bs m < M.size
@@ -63,7 +53,7 @@ module _ (M : FieldModel) (bs : List ℕ) where
       go : (b : Bool) → named (map_of bs) m ≡ b → file_value M bs m < M.size
       go true e =
           elim (dec_lt (file_value M bs m) M.size) [ yes k ↦ k | no k ↦ absurd (none m (h, e, inl (omega arith))) ]
-      go false e = rw (value_unnamed M bs m e) (zero-code M L)
+      go false e = rw (value_unnamed m e) (zero-code M L)
 
   framed_means : FieldLaws M → Framed M bs → ((m : ℕ) → Faulty M bs m → ⊥) → listed M (count_of bs) (file_value M bs) ≡ file_table M bs
   framed_means L fr none =

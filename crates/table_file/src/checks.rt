@@ -1,81 +1,77 @@
-// The checks of a table file's bytes, in their order.
-ghost use Rattle.std.specs.Prelude.{◌≡◌, ℕ, ◌<◌, ◌≤◌, length, Some, None, MatchResult};
-ghost use Rattle.field.specs.Bytes.{code_at};
-ghost use Rattle.table_file.specs.Files.{count_of, value_place, file_value, Headed, Framed, Faulty, FileCheck};
+// The checks of a table file behind its header, in their order, and where its values stand.
+ghost use Rattle.std.specs.Prelude.{◌≡◌, Some, None, MatchResult};
+ghost use Rattle.table_file.specs.Files.{count_of, map_of, value_place, file_value, Headed, Framed, FileCheck};
 
+use crate::TableFile;
 use field::{Element, Field, decode, element_width};
 use member_map::{is_named, map_length, named_count, stray_bit};
 use refusal::{Member, Refusal, Site};
+use stored::check_value;
 
-// The count, where kind and count are in order.
-pub(crate) fn header<F: Field>(bytes: &[u8]) -> Result<u8, Refusal>
-    ensures { MatchResult result (λ n. Headed F.model bytes.now × (n ≡ count_of bytes.now)) (λ e. FileCheck F.model bytes.now (Some e)) }
-{
-    if bytes.len() < 2 {
-        return Err(Refusal::WrongLength(Site::Nothing));
+impl<'a, F: Field> TableFile<'a, F> {
+    pub(crate) fn count_byte(&self) -> u8
+        ensures { result ≡ count_of self.now.bytes.now }
+    {
+        self.bytes.get(1).copied().unwrap_or(0)
     }
-    if bytes[0] != F::kind() {
-        return Err(Refusal::WrongKind);
-    }
-    let n = bytes[1];
-    if n == 0 || n > 64 {
-        return Err(Refusal::WrongCount);
-    }
-    Ok(n)
-}
 
-// The map, and the length that it calls for.
-pub(crate) fn frame<F: Field>(bytes: &[u8], n: u8) -> Result<(), Refusal>
-    requires { (Headed F.model bytes.now) × (n ≡ count_of bytes.now) }
-    ensures { MatchResult result (λ _. Framed F.model bytes.now) (λ e. FileCheck F.model bytes.now (Some e)) }
-{
-    let values = 2 + map_length(n);
-    if bytes.len() < values {
-        return Err(Refusal::WrongLength(Site::Nothing));
-    }
-    let map = &bytes[2..];
-    if let Some(b) = stray_bit(map, n) {
-        return Err(Refusal::StrayMapBit(Site::OfMember(b)));
-    }
-    if bytes.len() != values + element_width::<F>() * named_count(map, n) {
-        return Err(Refusal::WrongLength(Site::Nothing));
-    }
-    Ok(())
-}
-
-// The code of a member, 0 where the map does not name it.
-pub(crate) fn stored_code<F: Field>(bytes: &[u8], n: u8, m: u8) -> Element
-    requires { n ≡ count_of bytes.now }
-    ensures { result.0 ≡ file_value F.model bytes.now m }
-{
-    if bytes.len() < 2 {
-        return Element(0);
-    }
-    let map = &bytes[2..];
-    if !is_named(map, Member(usize::from(m))) {
-        return Element(0);
-    }
-    let at = 2 + map_length(n) + element_width::<F>() * named_count(map, m);
-    decode::<F>(bytes, at)
-}
-
-// Every stored value: an element, and not 0.
-pub(crate) fn values<F: Field>(bytes: &[u8], n: u8) -> Result<(), Refusal>
-    requires { (Framed F.model bytes.now) × (n ≡ count_of bytes.now) }
-    ensures { MatchResult result (λ _. FileCheck F.model bytes.now None) (λ e. FileCheck F.model bytes.now (Some e)) }
-{
-    let map = &bytes[2..];
-    for m in 0..n {
-        let member = Member(usize::from(m));
-        if is_named(map, member) {
-            let code = stored_code::<F>(bytes, n, m);
-            if code.0 >= F::size() {
-                return Err(Refusal::NotAnElement(Site::OfMember(member)));
-            }
-            if code.0 == 0 {
-                return Err(Refusal::StoredZero(Site::OfMember(member)));
-            }
+    // The bytes from the map on.
+    fn map(&self) -> &[u8]
+        ensures { result.now ≡ map_of self.now.bytes.now }
+    {
+        match self.bytes {
+            [_, _, map @ ..] => map,
+            _ => &[],
         }
     }
-    Ok(())
+
+    // Where the value of a member stands, or would stand.
+    fn value_place(&self, m: u8) -> usize
+        ensures { result ≡ value_place F.model self.now.bytes.now m }
+    {
+        2 + map_length(self.count_byte()) + element_width::<F>() * named_count(self.map(), m)
+    }
+
+    // The code of a member, 0 where the map does not name it.
+    pub(crate) fn stored_code(&self, m: u8) -> Element
+        ensures { result.0 ≡ file_value F.model self.now.bytes.now m }
+    {
+        if is_named(self.map(), Member(usize::from(m))) {
+            decode::<F>(self.bytes, self.value_place(m))
+        } else {
+            Element(0)
+        }
+    }
+
+    // The map, and the length that it calls for.
+    pub(crate) fn check_frame(&self) -> Result<(), Refusal>
+        requires { Headed F.model self.now.bytes.now }
+        ensures { MatchResult result (λ _. Framed F.model self.now.bytes.now) (λ e. FileCheck F.model self.now.bytes.now (Some e)) }
+    {
+        let n = self.count_byte();
+        if self.bytes.len() < 2 + map_length(n) {
+            return Err(Refusal::WrongLength(Site::Nothing));
+        }
+        if let Some(b) = stray_bit(self.map(), n) {
+            return Err(Refusal::StrayMapBit(Site::OfMember(b)));
+        }
+        if self.bytes.len() != self.value_place(n) {
+            return Err(Refusal::WrongLength(Site::Nothing));
+        }
+        Ok(())
+    }
+
+    // Every stored value: an element, and not 0.
+    pub(crate) fn check_values(&self) -> Result<(), Refusal>
+        requires { Framed F.model self.now.bytes.now }
+        ensures { MatchResult result (λ _. FileCheck F.model self.now.bytes.now None) (λ e. FileCheck F.model self.now.bytes.now (Some e)) }
+    {
+        for m in 0..self.count_byte() {
+            let member = Member(usize::from(m));
+            if is_named(self.map(), member) {
+                check_value::<F>(self.stored_code(m), Site::OfMember(member))?;
+            }
+        }
+        Ok(())
+    }
 }

@@ -1,42 +1,28 @@
 // The view: opened once the bytes pass their checks, and then a server.
 ghost use Rattle.std.specs.Prelude.{◌≡◌, Some, None, MatchResult};
-ghost use Rattle.table_file.specs.Files.{count_of, file_table, FileCheck};
+ghost use Rattle.table_file.specs.Files.{file_table, FileCheck};
 ghost use Rattle.table_file.specs.Views.{view_table};
 
-use crate::{TableFile, checks};
+use crate::TableFile;
 use field::{Element, Field};
 use refusal::{Member, Refusal};
 use server::{Server, bounded_count, element_or_zero};
 use std::marker::PhantomData;
+use stored::header_count;
 
 impl<'a, F: Field> TableFile<'a, F> {
     // The view of a table file's bytes, or the first check that fails.
     pub fn open(bytes: &'a [u8]) -> Result<TableFile<'a, F>, Refusal>
         ensures { MatchResult result (λ f. FileCheck F.model bytes.now None × (view_table F.model f ≡ file_table F.model bytes.now)) (λ e. FileCheck F.model bytes.now (Some e)) }
     {
-        let n = match checks::header::<F>(bytes) {
-            Ok(n) => n,
-            Err(e) => return Err(e),
-        };
-        if let Err(e) = checks::frame::<F>(bytes, n) {
-            return Err(e);
-        }
-        if let Err(e) = checks::values::<F>(bytes, n) {
-            return Err(e);
-        }
-        Ok(TableFile {
+        header_count::<F>(bytes)?;
+        let file = TableFile {
             bytes,
             field: PhantomData,
-        })
-    }
-
-    fn count_byte(&self) -> u8
-        ensures { result ≡ count_of self.now.bytes.now }
-    {
-        match self.bytes.get(1) {
-            Some(n) => *n,
-            None => 0,
-        }
+        };
+        file.check_frame()?;
+        file.check_values()?;
+        Ok(file)
     }
 }
 
@@ -53,7 +39,6 @@ impl<'a, F: Field> Server for TableFile<'a, F> {
         if m.0 >= self.count() {
             return None;
         }
-        let code = checks::stored_code::<F>(self.bytes, self.count_byte(), m.0 as u8);
-        Some(element_or_zero::<F>(code))
+        Some(element_or_zero::<F>(self.stored_code(m.0 as u8)))
     }
 }

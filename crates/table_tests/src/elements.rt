@@ -5,31 +5,41 @@ use field::{Element, Field, decode, element_width, encode};
 use std::io;
 use ticks::Ticks;
 
+fn results(rt: &HostRuntime, field: &str, cases: &[(&str, Element)]) -> io::Result<()> {
+    println!(rt; "{field}")?;
+    for (case, e) in cases {
+        show::number(rt, case, *e)?;
+    }
+    Ok(())
+}
+
 fn operations(rt: &HostRuntime) -> io::Result<()> {
-    println!(rt; "amounts")?;
-    show::number(rt, "65520 plus 2", Amounts::add(Element(65520), Element(2)))?;
-    show::number(
-        rt,
-        "300 times 300",
-        Amounts::mul(Element(300), Element(300)),
-    )?;
-    show::number(rt, "opposite of 1", Amounts::neg(Element(1)))?;
-    show::number(rt, "opposite of 0", Amounts::neg(Element(0)))?;
-    show::number(rt, "inverse of 2", Amounts::inv(Element(2)))?;
-    show::number(rt, "inverse of 0", Amounts::inv(Element(0)))?;
-    println!(rt; "ticks")?;
-    show::number(rt, "12 plus 10", Ticks::add(Element(12), Element(10)))?;
-    show::number(rt, "2 times 128", Ticks::mul(Element(2), Element(128)))?;
-    show::number(rt, "opposite of 7", Ticks::neg(Element(7)))?;
-    show::number(rt, "inverse of 3", Ticks::inv(Element(3)))?;
-    show::number(rt, "inverse of 0", Ticks::inv(Element(0)))
+    let amounts = [
+        ("65520 plus 2", Amounts::add(Element(65520), Element(2))),
+        ("300 times 300", Amounts::mul(Element(300), Element(300))),
+        ("opposite of 1", Amounts::neg(Element(1))),
+        ("opposite of 0", Amounts::neg(Element(0))),
+        ("inverse of 2", Amounts::inv(Element(2))),
+        ("inverse of 0", Amounts::inv(Element(0))),
+    ];
+    let ticks = [
+        ("12 plus 10", Ticks::add(Element(12), Element(10))),
+        ("2 times 128", Ticks::mul(Element(2), Element(128))),
+        ("opposite of 7", Ticks::neg(Element(7))),
+        ("inverse of 3", Ticks::inv(Element(3))),
+        ("inverse of 0", Ticks::inv(Element(0))),
+    ];
+    results(rt, "amounts", &amounts)?;
+    results(rt, "ticks", &ticks)
 }
 
 fn field<F: Field>(rt: &HostRuntime) -> io::Result<()> {
-    let kind = F::kind();
-    let size = F::size();
-    let width = element_width::<F>();
-    println!(rt; "kind {kind}, size {size}, bytes of an element {width}")
+    println!(rt;
+        "kind {}, size {}, bytes of an element {}",
+        F::kind(),
+        F::size(),
+        element_width::<F>()
+    )
 }
 
 // The bytes are written over the front of some that are all 9.
@@ -54,16 +64,18 @@ fn encodings<F: Field>(rt: &HostRuntime) -> io::Result<()> {
 
 fn decodings<F: Field>(rt: &HostRuntime) -> io::Result<()> {
     for at in [0, 1, 2, 3, usize::MAX] {
-        let code = decode::<F>(&[1, 2, 3], at).0;
-        println!(rt; "1 2 3 from {at}: {code}")?;
+        println!(rt; "1 2 3 from {at}: {}", decode::<F>(&[1, 2, 3], at))?;
     }
     Ok(())
 }
 
+fn bytes<F: Field>(rt: &HostRuntime) -> io::Result<()> {
+    encodings::<F>(rt)?;
+    decodings::<F>(rt)
+}
+
 pub(crate) fn run(rt: &HostRuntime) -> io::Result<()> {
     operations(rt)?;
-    encodings::<Amounts>(rt)?;
-    decodings::<Amounts>(rt)?;
-    encodings::<Ticks>(rt)?;
-    decodings::<Ticks>(rt)
+    bytes::<Amounts>(rt)?;
+    bytes::<Ticks>(rt)
 }

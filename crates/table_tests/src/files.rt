@@ -113,10 +113,7 @@ const TICKS: [(&str, &[u8]); 12] = [
 
 fn open<F: Field>(rt: &HostRuntime, cases: &[(&str, &[u8])]) -> io::Result<()> {
     for (case, bytes) in cases {
-        match TableFile::<F>::open(bytes) {
-            Ok(table) => show::table(rt, case, &table)?,
-            Err(refusal) => show::refused(rt, case, refusal)?,
-        }
+        show::made(rt, case, TableFile::<F>::open(bytes))?;
     }
     Ok(())
 }

@@ -2,7 +2,7 @@
 use crate::show;
 use amounts::Amounts;
 use field::{Element, Field};
-use refusal::Member;
+use refusal::{Member, Refusal};
 use server::{Array, Pair, Server, row_sum};
 use std::io;
 use table_file::TableFile;
@@ -13,10 +13,7 @@ const WAGES: [Element; 3] = [Element(120), Element(95), Element(70)];
 const VISITS: [Element; 3] = [Element(12), Element(10), Element(7)];
 
 fn array<F: Field>(rt: &HostRuntime, case: &str, elements: &[Element]) -> io::Result<()> {
-    match Array::<F>::new(elements) {
-        Ok(table) => show::table(rt, case, &table),
-        Err(refusal) => show::refused(rt, case, refusal),
-    }
+    show::made(rt, case, Array::<F>::new(elements))
 }
 
 fn arrays(rt: &HostRuntime) -> io::Result<()> {
@@ -42,33 +39,36 @@ fn arrays(rt: &HostRuntime) -> io::Result<()> {
     )
 }
 
-// A pair, or why there is none.
+// A pair of two servers, or the first refusal on the way to it.
+fn join<L: Server + Drop, R: Server<Over = L::Over> + Drop>(
+    left: Result<L, Refusal>,
+    right: Result<R, Refusal>,
+) -> Result<Pair<L, R>, Refusal> {
+    Pair::new(left?, right?).map_err(|apart| apart.refusal)
+}
+
 fn pair<L: Server + Drop, R: Server<Over = L::Over> + Drop>(
     rt: &HostRuntime,
     case: &str,
-    left: L,
-    right: R,
+    joined: Result<Pair<L, R>, Refusal>,
 ) -> io::Result<()> {
-    match Pair::new(left, right) {
+    match joined {
         Ok(both) => {
             show::table(rt, case, &both)?;
             show::value(rt, "member 2 of it", both.value(Member(2)))?;
             show::value(rt, "member 3 of it", both.value(Member(3)))
         }
-        Err(apart) => show::refused(rt, case, apart.refusal),
+        Err(refusal) => show::refused(rt, case, refusal),
     }
 }
 
 // An array of amounts beside a file of them.
 fn with_file(rt: &HostRuntime, case: &str, elements: &[Element], file: &[u8]) -> io::Result<()> {
-    let left = match Array::<Amounts>::new(elements) {
-        Ok(table) => table,
-        Err(refusal) => return show::refused(rt, case, refusal),
-    };
-    match TableFile::<Amounts>::open(file) {
-        Ok(table) => pair(rt, case, left, table),
-        Err(refusal) => show::refused(rt, case, refusal),
-    }
+    pair(
+        rt,
+        case,
+        join(Array::<Amounts>::new(elements), TableFile::open(file)),
+    )
 }
 
 // Two arrays of one field.
@@ -78,27 +78,13 @@ fn with_array<F: Field>(
     left: &[Element],
     right: &[Element],
 ) -> io::Result<()> {
-    let first = match Array::<F>::new(left) {
-        Ok(table) => table,
-        Err(refusal) => return show::refused(rt, case, refusal),
-    };
-    match Array::<F>::new(right) {
-        Ok(table) => pair(rt, case, first, table),
-        Err(refusal) => show::refused(rt, case, refusal),
-    }
+    pair(rt, case, join(Array::<F>::new(left), Array::new(right)))
 }
 
 // Wages beside a pair of one file with itself.
 fn with_pair(rt: &HostRuntime, case: &str, file: &[u8]) -> io::Result<()> {
-    if let (Ok(first), Ok(second)) = (
-        TableFile::<Amounts>::open(file),
-        TableFile::<Amounts>::open(file),
-    ) {
-        if let (Ok(wages), Ok(both)) = (Array::<Amounts>::new(&WAGES), Pair::new(first, second)) {
-            return pair(rt, case, wages, both);
-        }
-    }
-    println!(rt; "{case}: no pair")
+    let both = join(TableFile::<Amounts>::open(file), TableFile::open(file));
+    pair(rt, case, join(Array::<Amounts>::new(&WAGES), both))
 }
 
 fn pairs(rt: &HostRuntime) -> io::Result<()> {

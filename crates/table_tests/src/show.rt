@@ -5,14 +5,15 @@ use server::Server;
 use std::io;
 
 pub(crate) fn refused(rt: &HostRuntime, case: &str, refusal: Refusal) -> io::Result<()> {
-    let number = refusal.number();
-    let detail = refusal.detail();
-    println!(rt; "{case}: refused by {number} with {detail}")
+    println!(rt;
+        "{case}: refused by {} with {}",
+        refusal.number(),
+        refusal.detail()
+    )
 }
 
 pub(crate) fn number(rt: &HostRuntime, case: &str, e: Element) -> io::Result<()> {
-    let code = e.0;
-    println!(rt; "{case}: {code}")
+    println!(rt; "{case}: {e}")
 }
 
 // One value, which a server may lack.
@@ -27,11 +28,20 @@ pub(crate) fn value(rt: &HostRuntime, case: &str, found: Option<Element>) -> io:
 pub(crate) fn table<S: Server>(rt: &HostRuntime, case: &str, server: &S) -> io::Result<()> {
     let members = server.count();
     print!(rt; "{case}: count {members}, values")?;
-    for m in 0..members {
-        if let Some(e) = server.value(Member(m)) {
-            let code = e.0;
-            print!(rt; " {code}")?;
-        }
+    for e in (0..members).filter_map(|m| server.value(Member(m))) {
+        print!(rt; " {e}")?;
     }
     println!(rt; "")
+}
+
+// A server that was made, or why it was not.
+pub(crate) fn made<S: Server + Drop>(
+    rt: &HostRuntime,
+    case: &str,
+    made: Result<S, Refusal>,
+) -> io::Result<()> {
+    match made {
+        Ok(server) => table(rt, case, &server),
+        Err(refusal) => refused(rt, case, refusal),
+    }
 }

@@ -17,6 +17,7 @@ const SIZE: u32 = 256;
 
 const KIND: u8 = 2;
 
+#[derive(Clone, Copy, PartialEq, Eq, Debug)]
 pub struct Ticks;
 
 // The table of the powers of 3.
@@ -50,32 +51,11 @@ pub fn logarithm(a: u8) -> u8
     logarithms()[a as usize]
 }
 
-// The product of two powers of 3, by their exponents.
-fn product_of_powers(i: u8, j: u8) -> u8
-    ensures { result ≡ product (raised 3 i) (raised 3 j) }
-{
-    power(u32::from(i) + u32::from(j))
-}
-
-// The inverse of a power of 3, by its exponent.
-fn inverse_of_power(k: u8) -> u8
-    ensures { result ≡ raised (raised 3 k) 254 }
-{
-    power(255 - u32::from(k))
-}
-
-// The sum of two bytes.
-fn added(x: u8, y: u8) -> u8
-    ensures { result ≡ bit_xor x y }
-{
-    x ^ y
-}
-
 // The low byte of a code.
 fn low(e: Element) -> u8
     ensures { result ≡ e.0 % 256 }
 {
-    (e.0 & 0xff) as u8
+    (e.0 % 256) as u8
 }
 
 impl Field for Ticks {
@@ -92,7 +72,7 @@ impl Field for Ticks {
     }
 
     fn add(a: Element, b: Element) -> Element {
-        Element(u32::from(added(low(a), low(b))))
+        Element(u32::from(low(a) ^ low(b)))
     }
 
     fn mul(a: Element, b: Element) -> Element {
@@ -101,7 +81,8 @@ impl Field for Ticks {
         if x == 0 || y == 0 {
             return Element(0);
         }
-        Element(u32::from(product_of_powers(logarithm(x), logarithm(y))))
+        let exponent = u32::from(logarithm(x)) + u32::from(logarithm(y));
+        Element(u32::from(power(exponent)))
     }
 
     fn neg(a: Element) -> Element {
@@ -113,6 +94,6 @@ impl Field for Ticks {
         if x == 0 {
             return Element(0);
         }
-        Element(u32::from(inverse_of_power(logarithm(x))))
+        Element(u32::from(power(255 - u32::from(logarithm(x)))))
     }
 }

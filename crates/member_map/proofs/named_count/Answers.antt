@@ -1,20 +1,17 @@
-use Rattle.std.proofs.Common.{sym, ◌∙◌, arith}
-use Rattle.member_map.proofs.Counts.{none_below, below-named, below_unnamed}
+-- Answers for `named_count`: the count over a range is that of the definition.
+use Rattle.std.proofs.Common.{refl, ap, ◌∙◌, rules, tests, arith}
+use Rattle.std.proofs.lemmas.Iterator.{YieldsList-from_range}
+use Rattle.std.proofs.lemmas.Iterator.Consumers.{count_from_yields_List, YieldsList-from_filter, YieldsList-at}
+use Rattle.member_map.specs.Maps.{named, named_below}
+use Rattle.member_map.proofs.Counts.{filtered_below}
 use Rattle.member_map.proofs.named_count.Goals as goal
-use Rattle.member_map.proofs.named_count.Goals.{then-is_named, else-is_named}
 
-pub loop-m-init : goal.loop-m-init
-loop-m-init c = (sym (none_below _), omega arith)
-
-pub loop-m-preserved : goal.loop-m-preserved
-loop-m-preserved c =
+pub returns : goal.returns
+returns c =
     let map = c.args.map.now in
-    let m = c.loop-m.m in
-    elim c.if-is_named.branch [
-      | then-is_named w ↦
-          let is = below-named map m (sym c.is_named.ensures ∙ w.if-is_named.true) in
-          (omega (arith, w.named-is), omega (arith, w.named-is))
-      | else-is_named w ↦
-          let is = below_unnamed map m (sym c.is_named.ensures ∙ w.if-is_named.false) in
-          (omega (arith, w.named-is), omega (arith, w.named-is))
-    ]
+    let n = c.from.result in
+    count_from_yields_List c.filter.result _ c.count.ensures.ran
+    (YieldsList-from_filter _ (named map) (YieldsList-at c.filter.ensures.source (YieldsList-from_range 0 n n refl (omega arith)))
+    c.filter.ensures.closure (λ x b q k. search (rules, tests)))
+    ∙ filtered_below map n
+    ∙ ap (named_below map) c.from.ensures

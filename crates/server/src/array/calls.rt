@@ -5,7 +5,7 @@ ghost use Rattle.server.specs.Checks.{ArrayCheck};
 ghost use Rattle.server.specs.Arrays.{array_table};
 
 use crate::array::Array;
-use crate::{Server, bounded_count, element_or_zero};
+use crate::{Server, bounded_count, element_or_zero, is_count};
 use field::{Element, Field};
 use refusal::{Member, Refusal, Site};
 use std::marker::PhantomData;
@@ -15,18 +15,16 @@ impl<'a, F: Field> Array<'a, F> {
     pub fn new(elements: &'a [Element]) -> Result<Array<'a, F>, Refusal>
         ensures { MatchResult result (λ a. ArrayCheck F.model (codes elements.now) None × (array_table F.model a ≡ codes elements.now)) (λ e. ArrayCheck F.model (codes elements.now) (Some e)) }
     {
-        if elements.is_empty() || elements.len() > 64 {
+        if !is_count(elements.len()) {
             return Err(Refusal::WrongCount);
         }
-        for (m, e) in elements.iter().enumerate() {
-            if e.0 >= F::size() {
-                return Err(Refusal::NotAnElement(Site::OfMember(Member(m))));
-            }
+        match elements.iter().position(|e| e.0 >= F::size()) {
+            Some(m) => Err(Refusal::NotAnElement(Site::OfMember(Member(m)))),
+            None => Ok(Array {
+                elements,
+                field: PhantomData,
+            }),
         }
-        Ok(Array {
-            elements,
-            field: PhantomData,
-        })
     }
 }
 
@@ -43,9 +41,7 @@ impl<'a, F: Field> Server for Array<'a, F> {
         if m.0 >= self.count() {
             return None;
         }
-        match self.elements.get(m.0) {
-            Some(e) => Some(element_or_zero::<F>(*e)),
-            None => Some(Element(0)),
-        }
+        let e = self.elements.get(m.0).copied().unwrap_or(Element(0));
+        Some(element_or_zero::<F>(e))
     }
 }

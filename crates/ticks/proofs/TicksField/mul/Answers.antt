@@ -1,17 +1,15 @@
--- A product with 0 is 0.
+-- A product with 0 is 0, and exponents add up where powers are multiplied.
 use mathlib.Core.Logic.{inl, inr}
 use mathlib.Core.Path.{◌≡◌, sym, ◌∙◌, ap, ap₂}
 use lib.Dec.{lit<}
-use Rattle.ticks.specs.Polynomials.{product}
+use Prim.Native.Nat.{◌+◌}
+use Rattle.ticks.specs.Polynomials.{product, raised}
+use Rattle.ticks.specs.Raising.{raised-add}
 use Rattle.ticks.specs.Products.{zero-product, product-zero}
 use Rattle.ticks.proofs.TicksField.mul.Goals as goal
 
-pub returns-then-x-eq0 : goal.returns-then-x-eq0
-returns-then-x-eq0 c =
-    record {
-      is = made ∙ ap₂ product c.low-x.ensures c.low-y.ensures;
-      within = lit< tt;
-    }
+pub returns-then-x-eq0-clause-is : goal.returns-then-x-eq0-clause-is
+returns-then-x-eq0-clause-is c = made ∙ ap₂ product c.low-x.ensures c.low-y.ensures
   where
     made : 0 ≡ product c.low-x.result c.low-y.result
     made =
@@ -19,3 +17,10 @@ returns-then-x-eq0 c =
           | inl e ↦ sym (ap (λ x. product x c.low-y.result) e ∙ zero-product c.low-y.result)
           | inr e ↦ sym (ap (product c.low-x.result) e.1 ∙ product-zero c.low-x.result c.low-x.type_inv)
         ]
+
+pub returns-clause-is : goal.returns-clause-is
+returns-clause-is c =
+    c.from-3.ensures ∙ c.power.ensures ∙ ap₂ (λ i j. raised 3 (i + j)) c.from.ensures c.from-2.ensures
+    ∙ raised-add 3 c.logarithm.result c.logarithm-2.result (lit< tt)
+    ∙ ap₂ product (c.logarithm.ensures.undone c.if-x-eq0.false ∙ c.low-x.ensures)
+    (c.logarithm-2.ensures.undone c.if-y-eq0.false ∙ c.low-y.ensures)

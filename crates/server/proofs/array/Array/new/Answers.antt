@@ -1,26 +1,25 @@
-use Rattle.std.proofs.Common.{◌≡◌, length, sym, ◌∙◌, ⊎_elim, arith, below_more, eqb-true}
-use borrow.Author.Tests.{eqb-false}
-use Rattle.server.specs.Checks.{Count}
+use Rattle.std.proofs.Common.{◌<◌, ◌≤◌, Some, None, sym, ◌∙◌, true≢false, arith, rules, tests}
+use Rattle.std.proofs.lemmas.Iterator.{YieldsList-from_slice, IsFirst-from_position}
 use Rattle.server.proofs.Arrays.{wrong, stray, not_stray, fine}
 use Rattle.server.proofs.array.Array.new.Goals as goal
 
-pub returns-then-is_empty : goal.returns-then-is_empty
-returns-then-is_empty g c =
-    wrong _ c.args.elements.now
-    (λ n. ⊎_elim (λ e. let z = eqb-true _ _ (sym c.is_empty.ensures ∙ e) in omega arith) (λ p. omega arith) c.then-is_empty.either)
+pub returns-then-not-is_count : goal.returns-then-not-is_count
+returns-then-not-is_count g c =
+    wrong _ c.args.elements.now (λ n. true≢false (sym (c.is_count.ensures.1 n) ∙ c.if-not-is_count.true))
 
-pub returns-then-e-size : goal.returns-then-e-size
-returns-then-e-size g c =
-    let some : length c.args.elements.now ≡ 0 → ⊥ = eqb-false _ _ (sym c.is_empty.ensures ∙ c.if-is_empty.false) in
-    let n : Count (length c.args.elements.now) = (omega arith, c.if-elements-gt64.false) in
-    stray _ c.args.elements.now c.loop-m.m n c.loop-m-test.true (omega arith) c.loop-m.invariant
+pub returns-in-Some : goal.returns-in-Some
+returns-in-Some g c =
+    let M = g.F.Field.model in
+    let es = c.args.elements.now in
+    let first = IsFirst-from_position _ _ (Some c.in-Some.m) (λ e. M.size ≤ e.0) (λ e. e.0 < M.size) c.in-Some.ensures.ran
+    (YieldsList-from_slice es cc) (λ x q k. search (rules, tests)) (λ x q k. search (rules, tests)) in
+    stray M es c.in-Some.m (c.is_count.ensures.0 c.if-not-is_count.false) first.0 (first.1 _)
+    (λ k h. not_stray M es k (omega (arith, first.0)) (first.2 k _ (omega arith) h))
 
-pub loop-m-preserved : goal.loop-m-preserved
-loop-m-preserved g c =
-    below_more _ _ c.loop-m.invariant (not_stray g.F.Field.model c.args.elements.now c.loop-m.m c.loop-m-test.true (omega arith))
-
-pub returns : goal.returns
-returns g c =
-    let some : length c.args.elements.now ≡ 0 → ⊥ = eqb-false _ _ (sym c.is_empty.ensures ∙ c.if-is_empty.false) in
-    let n : Count (length c.args.elements.now) = (omega arith, c.if-elements-gt64.false) in
-    fine _ c.args.elements.now n (λ k h. c.loop-m.invariant k (omega arith))
+pub returns-in-None : goal.returns-in-None
+returns-in-None g c =
+    let M = g.F.Field.model in
+    let es = c.args.elements.now in
+    let none = IsFirst-from_position _ _ None (λ e. M.size ≤ e.0) (λ e. e.0 < M.size) c.in-None.ensures.ran
+    (YieldsList-from_slice es cc) (λ x q k. search (rules, tests)) (λ x q k. search (rules, tests)) in
+    fine M es (c.is_count.ensures.0 c.if-not-is_count.false) (λ k h. not_stray M es k h (none k _ (omega arith) h))

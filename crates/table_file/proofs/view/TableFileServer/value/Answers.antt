@@ -10,4 +10,4 @@ returns g c =
     let M = g.F.Field.model in
     let bs = c.args.self.now.bytes.now in
     let m = c.args.m.0 in
-    answered M (count_of bs) (file_value M bs) m _ (omega (arith, c.count.ensures.is)) (c.element_or_zero.ensures ∙ ap (element_or_zero_lem M) c.stored_code-code.ensures)
+    answered M (count_of bs) (file_value M bs) m _ (omega (arith, c.count.ensures.is)) (c.element_or_zero.ensures ∙ ap (element_or_zero_lem M) c.stored_code.ensures)

@@ -1,23 +1,17 @@
-use Rattle.std.proofs.Common.{◌<◌, ◌≤◌, length, sym, ◌∙◌, ap₂, arith}
+use Rattle.std.proofs.Common.{◌<◌, length, inl, inr, sym, ◌∙◌, ap₂, arith}
 use Rattle.server.specs.Tables.{sums}
-use Rattle.server.proofs.Pairs.{sums-length, sums_at}
+use Rattle.server.proofs.Pairs.{sums-length, sums_past, sums_at}
 use Rattle.server.proofs.pair.calls.PairServer.value.Goals as goal
 
 pub returns-in_err-a : goal.returns-in_err-a
 returns-in_err-a g c =
-    let t = g.L.Server.table c.args.self.now.left in
-    let u = g.R.Server.table c.args.self.now.right in
-    let none = c.in_err-a.ensures in
-    let short : length (sums g.L.Over.Field.model t u) ≤ c.args.m.0 = omega (arith, sums-length g.L.Over.Field.model t u) in
-    rw c.from_residual.ensures short
+    let p = c.args.self.now in
+    rw c.from_residual.ensures (sums_past g.L.Over.Field.model (g.L.Server.table p.left) (g.R.Server.table p.right) _ (inl c.in_err-a.ensures))
 
 pub returns-in_err-b : goal.returns-in_err-b
 returns-in_err-b g c =
-    let t = g.L.Server.table c.args.self.now.left in
-    let u = g.R.Server.table c.args.self.now.right in
-    let none = c.in_err-b.ensures in
-    let short : length (sums g.L.Over.Field.model t u) ≤ c.args.m.0 = omega (arith, sums-length g.L.Over.Field.model t u) in
-    rw c.from_residual-in_err-b.ensures short
+    let p = c.args.self.now in
+    rw c.from_residual-in_err-b.ensures (sums_past g.L.Over.Field.model (g.L.Server.table p.left) (g.R.Server.table p.right) _ (inr c.in_err-b.ensures))
 
 pub returns : goal.returns
 returns g c =
