@@ -2,24 +2,24 @@ use Rattle.std.proofs.Common.{sym, ap, ◌∙◌, rules}
 use Rattle.std.proofs.lemmas.Result.{err_from_is_err_and}
 use Rattle.query.specs.Items.{of_item}
 use Rattle.query.proofs.ItemChecks.{stands-within, spaced_none, spaced-some}
-use Rattle.query.proofs.items.read_spaced.Goals as goal
+use Rattle.query.proofs.reader.Reader.read_spaced.Goals as goal
 
 pub returns-then-not-stands : goal.returns-then-not-stands
 returns-then-not-stands c =
-    sym (spaced_none _ c.args.line.now c.args.at.0 (sym c.stands.ensures ∙ c.if-not-stands.true))
+    sym (spaced_none _ c.args.self.now.line.now c.args.at.0 (sym c.stands.ensures ∙ c.if-not-stands.true))
 
 pub overflow_add-at : goal.overflow_add-at
 overflow_add-at c =
-    let h = stands-within c.args.line.now c.args.at.0 32 (sym c.stands.ensures ∙ c.if-not-stands.false) in search rules
+    let h = stands-within c.args.self.now.line.now c.args.at.0 32 (sym c.stands.ensures ∙ c.if-not-stands.false) in search rules
 
 pub returns-in_err-read_number : goal.returns-in_err-read_number
 returns-in_err-read_number c =
     let p = err_from_is_err_and c.from_residual.result c.from_residual.ensures.1 in
     rw (p.1, p.2)
-    (sym (spaced-some c.args.limit c.args.line.now c.args.at.0 (sym c.stands.ensures ∙ c.if-not-stands.false)
+    (sym (spaced-some c.args.limit c.args.self.now.line.now c.args.at.0 (sym c.stands.ensures ∙ c.if-not-stands.false)
     ∙ ap of_item (sym c.read_number.ensures ∙ c.in_err-read_number.was)))
 
 pub returns : goal.returns
 returns c =
-    sym (spaced-some c.args.limit c.args.line.now c.args.at.0 (sym c.stands.ensures ∙ c.if-not-stands.false)
+    sym (spaced-some c.args.limit c.args.self.now.line.now c.args.at.0 (sym c.stands.ensures ∙ c.if-not-stands.false)
     ∙ ap of_item (sym c.read_number.ensures ∙ c.in_ok-read_number.was))
