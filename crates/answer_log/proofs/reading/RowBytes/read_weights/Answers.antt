@@ -5,8 +5,8 @@ use Rattle.record.proofs.Weights.{written, unwritten, zeros}
 use Rattle.answer_log.specs.Entries.{row_weight}
 use Rattle.answer_log.proofs.Again.{unnamed_weight}
 use Rattle.answer_log.proofs.Readers.{bit_is, no_fault, unnamed_no_fault, past_size, zero_stored}
-use Rattle.answer_log.proofs.reading.read_weights.Goals as goal
-use Rattle.answer_log.proofs.reading.read_weights.Goals.{then-is_named+else-weight-size+else-weight-eq0, else-is_named}
+use Rattle.answer_log.proofs.reading.RowBytes.read_weights.Goals as goal
+use Rattle.answer_log.proofs.reading.RowBytes.read_weights.Goals.{then-is_named+else-weight-size+else-weight-eq0, else-is_named}
 
 pub loop-m-init : goal.loop-m-init
 loop-m-init g c = (refl, λ k h. absurd (omega arith), λ k h. absurd (omega arith), λ k h. zeros 64 k)
@@ -15,30 +15,30 @@ pub named_weight-weight-requires : goal.named_weight-weight-requires
 named_weight-weight-requires g c =
     record {
       some = omega (arith, c.requires.named.mapped.whole);
-      bit = bit_is c.args.rest.now c.args.n c.loop-m.m _ _ c.from.ensures c.is_named.ensures ∙ c.if-is_named.true;
+      bit = bit_is c.args.self.now.bytes.now c.args.self.now.count c.loop-m.m _ _ c.from.ensures c.is_named.ensures ∙ c.if-is_named.true;
     }
 
 pub returns-then-weight-size : goal.returns-then-weight-size
 returns-then-weight-size g c =
-    let bs = c.args.rest.now in
-    let n = c.args.n in
+    let bs = c.args.self.now.bytes.now in
+    let n = c.args.self.now.count in
     let m = c.loop-m.m in
     let bit = bit_is bs n m _ _ c.from.ensures c.is_named.ensures ∙ c.if-is_named.true in
-    past_size g.F.Field.model n bs c.requires c.args.row m _ c.loop-m-test.true bit c.named_weight-weight.ensures c.loop-m.invariant.1 (omega (arith, c.size.ensures))
+    past_size g.F.Field.model n bs c.requires c.args.self.now.row m _ c.loop-m-test.true bit c.named_weight-weight.ensures c.loop-m.invariant.1 (omega (arith, c.size.ensures))
 
 pub returns-then-weight-eq0 : goal.returns-then-weight-eq0
 returns-then-weight-eq0 g c =
-    let bs = c.args.rest.now in
-    let n = c.args.n in
+    let bs = c.args.self.now.bytes.now in
+    let n = c.args.self.now.count in
     let m = c.loop-m.m in
     let bit = bit_is bs n m _ _ c.from.ensures c.is_named.ensures ∙ c.if-is_named.true in
-    zero_stored g.F.Field.model n bs c.requires c.args.row m _ c.loop-m-test.true bit c.named_weight-weight.ensures c.loop-m.invariant.1 c.if-weight-eq0.true
+    zero_stored g.F.Field.model n bs c.requires c.args.self.now.row m _ c.loop-m-test.true bit c.named_weight-weight.ensures c.loop-m.invariant.1 c.if-weight-eq0.true
 
 pub loop-m-preserved : goal.loop-m-preserved
 loop-m-preserved g c =
     let M = g.F.Field.model in
-    let bs = c.args.rest.now in
-    let n = c.args.n in
+    let bs = c.args.self.now.bytes.now in
+    let n = c.args.self.now.count in
     let m = c.loop-m.m in
     let inv = c.loop-m.invariant in
     let old = c.loop-m.weights in
@@ -46,7 +46,7 @@ loop-m-preserved g c =
     elim c.if-is_named.branch [
       | then-is_named+else-weight-size+else-weight-eq0 v ↦
           let code = v.named_weight-weight.ensures in
-          let is = v.weights-is ∙ ap (λ i. set old i v.named_weight-weight.result) v.from-then-is_named.ensures in
+          let is = v.weights-is ∙ ap (λ i. set old i v.named_weight-weight.result) c.from.ensures in
           let below : row_weight M n bs m < M.size = rw (← code, ← v.size.ensures) v.if-weight-size.false in
           let room : m < length old = omega (arith, inv.0, c.requires.named.mapped.count) in
           let other : (k : ℕ) → k ≢ m → weights_of new k ≡ weights_of old k =
@@ -69,7 +69,7 @@ loop-m-preserved g c =
 pub returns : goal.returns
 returns g c =
     let inv = c.loop-m.invariant in
-    let all : c.loop-m.m ≡ c.args.n = omega arith in (
+    let all : c.loop-m.m ≡ c.args.self.now.count = omega arith in (
       inv.0,
       λ m f. inv.1 m (omega (arith, f.0)) f,
       λ m h. inv.2 m (omega arith),

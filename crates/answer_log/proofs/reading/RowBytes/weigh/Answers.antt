@@ -5,32 +5,32 @@ use Rattle.field.specs.Sums.{weights_of}
 use Rattle.answer_log.specs.Rows.{plain}
 use Rattle.answer_log.specs.Entries.{weighted, row_weight, needless_weights}
 use Rattle.answer_log.proofs.Readers.{is_weighted, not_weighted, plain_read}
-use Rattle.answer_log.proofs.reading.weigh.Goals as goal
-use Rattle.answer_log.proofs.reading.weigh.Goals.{else-mark_of-eq1-via-then-mark_of-eq1+else-is_plain, else-mark_of-eq1-via-else-mark_of-eq1}
+use Rattle.answer_log.proofs.reading.RowBytes.weigh.Goals as goal
+use Rattle.answer_log.proofs.reading.RowBytes.weigh.Goals.{else-mark-eq1-via-then-mark-eq1+else-is_plain, else-mark-eq1-via-else-mark-eq1}
 
 pub returns-then-is_plain : goal.returns-then-is_plain
 returns-then-is_plain g c =
-    let bs = c.args.rest.now in
-    let n = c.args.n in
-    let ws = c.in-Ok.weights in
-    let fine = c.in-Ok.ensures in
-    needless_weights c.requires fine.1 (is_weighted bs _ c.mark_of.ensures c.if-mark_of-eq1.true)
+    let bs = c.args.self.now.bytes.now in
+    let n = c.args.self.now.count in
+    let ws = c.in_ok-weights.weights in
+    let fine = c.in_ok-weights.ensures in
+    needless_weights c.requires fine.1 (is_weighted bs _ c.mark.ensures c.if-mark-eq1.true)
     (sym (plain_read g.F.Field.model n bs (weights_of ws) (length ws) (omega (arith, c.requires.named.mapped.count, fine.0)) fine.2 fine.3)
     ∙ sym c.is_plain.ensures ∙ c.if-is_plain.true)
 
 pub returns : goal.returns
 returns g c =
     let M = g.F.Field.model in
-    let bs = c.args.rest.now in
-    let n = c.args.n in
-    let ws = c.in-Ok.weights in
-    let fine = c.in-Ok.ensures in
+    let bs = c.args.self.now.bytes.now in
+    let n = c.args.self.now.count in
+    let ws = c.in_ok-weights.weights in
+    let fine = c.in_ok-weights.ensures in
     let needed : weighted bs ≡ true → plain (row_weight M n bs) n ≡ false = λ e.
-    elim c.else-mark_of-eq1.branch [
-      | else-mark_of-eq1-via-then-mark_of-eq1+else-is_plain v ↦
+    elim c.else-mark-eq1.branch [
+      | else-mark-eq1-via-then-mark-eq1+else-is_plain v ↦
           sym (plain_read M n bs (weights_of ws) (length ws) (omega (arith, c.requires.named.mapped.count, fine.0)) fine.2 fine.3)
           ∙ sym v.is_plain.ensures ∙ v.if-is_plain.false
-      | else-mark_of-eq1-via-else-mark_of-eq1 v ↦
-          absurd (both_ways _ (not_weighted bs _ c.mark_of.ensures v.if-mark_of-eq1.false) e)
+      | else-mark-eq1-via-else-mark-eq1 v ↦
+          absurd (both_ways _ (not_weighted bs _ c.mark.ensures v.if-mark-eq1.false) e)
     ]
     in (record { framed = c.requires; no_fault = fine.1; needed = needed }, fine.2, fine.3)

@@ -1,19 +1,20 @@
 -- Answers for `write_weights`: one weight more.
-use Rattle.std.proofs.Common.{◌≡◌, ℕ, ◌+◌, ◌-◌, ◌≤◌, ◌++◌, length, drop, sym, ap, ◌∙◌, ap₂, arith, rules}
+use Rattle.std.proofs.Common.{◌≡◌, ℕ, ◌+◌, ◌-◌, ◌<◌, ◌≤◌, ◌++◌, length, take, drop, sym, ap, ◌∙◌, ap₂, arith, rules}
 use Rattle.field.specs.Model.{FieldModel}
 use Rattle.field.specs.Bytes.{width, written}
 use Rattle.field.specs.Sums.{Vector, weights_of}
 use Rattle.answer_log.specs.Rows.{weight_bytes}
 use Rattle.answer_log.proofs.Elements.{written-length}
+use Rattle.answer_log.proofs.Buffers.{encoded, encoded_count}
 use Rattle.answer_log.proofs.Weights.{stands, clear, weights_none, weights-named, weights_unnamed, weights_rise, length-named}
 use Rattle.buffer.specs.Buffers.{Front}
 use Rattle.buffer.proofs.Fronts.{part_length, front_more}
-use Rattle.answer_log.proofs.parts.write_weights.Goals as goal
-use Rattle.answer_log.proofs.parts.write_weights.Goals.{then-weight-ne0+in-Some, then-weight-ne0+in_default, else-weight-ne0}
+use Rattle.answer_log.proofs.parts.Row.write_weights.Goals as goal
+use Rattle.answer_log.proofs.parts.Row.write_weights.Goals.{then-weight-ne0, else-weight-ne0}
 
 pub loop-weight-init : goal.loop-weight-init
 loop-weight-init g c =
-    let none = weights_none g.F.Field.model (weights_of c.args.weights.now) in
+    let none = weights_none g.F.Field.model (weights_of c.args.self.now.weights.now) in
     (sym (ap length none), sym (ap (λ xs. xs ++ c.args.out.now) none))
 
 -- the weights below one more member fit where those below all do
@@ -28,21 +29,21 @@ room_below M w n m room h all =
 
 pub slice_bounds-encode-count : goal.slice_bounds-encode-count
 slice_bounds-encode-count g c =
-    let ws = c.args.weights.now in
-    let below = room_below g.F.Field.model (weights_of ws) (length ws) c.loop-weight.weight-index (length c.args.out.now) (omega arith) c.requires.room in
+    let ws = c.args.self.now.weights.now in
+    let below = room_below g.F.Field.model (weights_of ws) (length ws) c.loop-weight.weight-index (length c.args.out.now) (omega arith) c.requires in
     omega (arith, c.loop-weight.invariant.0)
 
 pub slice_bounds-encode-start : goal.slice_bounds-encode-start
 slice_bounds-encode-start g c =
-    let ws = c.args.weights.now in
-    let below = room_below g.F.Field.model (weights_of ws) (length ws) c.loop-weight.weight-index (length c.args.out.now) (omega arith) c.requires.room in
+    let ws = c.args.self.now.weights.now in
+    let below = room_below g.F.Field.model (weights_of ws) (length ws) c.loop-weight.weight-index (length c.args.out.now) (omega arith) c.requires in
     let h : c.loop-weight.at ≤ length c.loop-weight.out = omega (arith, c.loop-weight.invariant.0) in
     search rules
 
 pub loop-weight-preserved : goal.loop-weight-preserved
 loop-weight-preserved g c =
     let M = g.F.Field.model in
-    let ws = c.args.weights.now in
+    let ws = c.args.self.now.weights.now in
     let w = weights_of ws in
     let n = length ws in
     let m = c.loop-weight.weight-index in
@@ -51,25 +52,23 @@ loop-weight-preserved g c =
     let done = weight_bytes M w m in
     let inv = c.loop-weight.invariant in
     let front : at ≤ length o → Front o c.loop-weight.out done at = λ h. record { buffer = inv.1; size = sym inv.0; within = h } in
-    let room = room_below M w n (m + 1) (length o) (omega arith) c.requires.room in
+    let room = room_below M w n (m + 1) (length o) (omega arith) c.requires in
     elim c.if-weight-ne0.branch [
-      | then-weight-ne0+in-Some v ↦
-          let bit = stands w m v.if-weight-ne0.true in
-          let long = length-named M w m bit in
-          let wrote = v.in-Some.ensures in
-          let far : c.if-weight-ne0.at ≡ at + width M = v.at-is ∙ ap (λ k. at + k) wrote.1 in
-          let within : at ≤ length o = omega (arith, inv.0) in (
-            omega (arith, inv.0),
-            v.out-is
-                ∙ (front_more o c.loop-weight.out done at (front within) (written M (w m)) v.encode.new.out (width M) wrote.3 (written-length M (w m)) (omega (arith, inv.0))).buffer
-                ∙ ap₂ (λ xs k. xs ++ drop k o) (sym (weights-named M w m bit)) (sym far),
-          )
-      | then-weight-ne0+in_default v ↦
+      | then-weight-ne0 v ↦
           let bit = stands w m v.if-weight-ne0.true in
           let long = length-named M w m bit in
           let within : at ≤ length o = omega (arith, inv.0) in
           let part = part_length o c.loop-weight.out done at (front within) in
-          absurd (v.in_default.ensures.1 (c.requires.elements m c.loop-weight-test.true) (omega (arith, inv.0)))
+          let fits : w m < M.size = c.args.self.now.elements m c.loop-weight-test.true in
+          let wide : width M ≤ length (take (length c.loop-weight.out - at) (drop at c.loop-weight.out)) = omega (arith, inv.0) in
+          let wrote = encoded M (w m) _ v.encode.new.out v.encode.result fits wide v.encode.ensures in
+          let size = v.unwrap_or-at.ensures ∙ encoded_count M (w m) _ v.encode.new.out v.encode.result fits wide v.encode.ensures in
+          let far : c.if-weight-ne0.at ≡ at + width M = v.at-is ∙ ap (λ k. at + k) size in (
+            omega (arith, inv.0),
+            v.out-is
+                ∙ (front_more o c.loop-weight.out done at (front within) (written M (w m)) v.encode.new.out (width M) wrote (written-length M (w m)) (omega (arith, inv.0))).buffer
+                ∙ ap₂ (λ xs k. xs ++ drop k o) (sym (weights-named M w m bit)) (sym far),
+          )
       | else-weight-ne0 v ↦
           let same = weights_unnamed M w m (clear w m v.if-weight-ne0.false) in (
             v.at-is ∙ inv.0 ∙ sym (ap length same),
