@@ -1,7 +1,7 @@
 -- The digits at a place of a line, and what they are worth. Assumes nothing.
 use Rattle.std.proofs.Common.{◌≡◌, ℕ, ◌+◌, ◌-◌, ◌*◌, ◌<◌, ◌≤◌, Bool, true, false, cond, List, [], ◌∷◌, length, get_or, take, drop, sym, refl, ap, ◌∙◌, ⊎_elim, arith, rules}
 use Rattle.std.specs.Char.{is_ascii_digit}
-use Rattle.std.proofs.lemmas.List.{at_drop_more, drop_more}
+use Rattle.std.proofs.lemmas.List.{at_drop_more}
 use Rattle.std.proofs.lemmas.Bool.{cases_Bool, and_parts, leb-true, and_from, le-leb}
 use Rattle.std.proofs.lemmas.Str.Parse.{IsNumeralModel, IsDigitsTest, numerals_by_fold, digits_value_short}
 use Rattle.std.specs.List.{take_while}
@@ -69,17 +69,8 @@ pub worth-short : (bs : List ℕ) → length (digits bs) ≤ 5 → worth 0 (digi
 worth-short bs h = digits_value_short own (digits bs) 5 (digits-digits bs) h
 
 -- one more digit of a text that is all digits
-module _ (text : List ℕ) (i v : ℕ) (within : i < length text) (fixed : digits (drop i text) ≡ drop i text) where
-  parts : (is_ascii_digit (get_or text i 0) ≡ true) × (digits (drop (i + 1) text) ≡ drop (i + 1) text)
-  parts = fixed-parts _ _ (let e = drop_more text i 0 within in ap digits (sym e) ∙ fixed ∙ e)
-
-  pub digit_here : 48 ≤ get_or text i 0
-  digit_here = (digit_range _ parts.0).0
-
-  pub fixed-next : digits (drop (i + 1) text) ≡ drop (i + 1) text
-  fixed-next = parts.1
-
-  pub worth-next : worth (v * 10 + (get_or text i 0 - 48)) (drop (i + 1) text) ≡ worth v (drop i text)
+module _ (text : List ℕ) (i v : ℕ) (within : i < length text) where
+  worth-next : worth (v * 10 + (get_or text i 0 - 48)) (drop (i + 1) text) ≡ worth v (drop i text)
   worth-next = sym (at_drop_more (worth v) text i 0 within)
 
   pub worth_room : v * 10 + (get_or text i 0 - 48) ≤ worth v (drop i text)

@@ -1,6 +1,5 @@
 -- Answers for `rewrite_rows`: row after row.
-use Rattle.std.proofs.Common.{◌≡◌, ℕ, ◌<◌, ◌≤◌, ◌++◌, length, get_or, drop, sym, ◌∙◌, ap₂, arith, rules}
-use Rattle.std.proofs.lemmas.List.{take_all, length-take-le}
+use Rattle.std.proofs.Common.{◌≡◌, ℕ, ◌<◌, ◌≤◌, length, get_or, arith, rules}
 use Rattle.buffer.proofs.Fronts.{part_length}
 use Rattle.answer_log.proofs.Logs.{row_count, cut_few, cut_codes, cut_figure, cut_size, cut_put}
 use Rattle.answer_log.proofs.Steps.{whole_still, count-still, next-place, row-here, step_left, step_fine}
@@ -17,23 +16,6 @@ returns-in_default g c =
     let inv = c.loop-entry.invariant in
     let step = c.in-Some.ensures.steps in
     absurd (step_fine M s t _ step bytes n inv.2 inv.3 c.in_default.field-0 c.in_default.is at inv.4 inv.7)
-
-pub slice_bounds-row-end : goal.slice_bounds-row-end
-slice_bounds-row-end g c =
-    let M = g.F.Field.model in
-    let n = c.args.n in
-    let bytes = c.args.bytes.now in
-    let at = c.loop-entry.at in
-    let s = c.loop-entry.entry-iterator in
-    let t = c.next.new.self in
-    let inv = c.loop-entry.invariant in
-    let step = c.in-Some.ensures.steps in
-    let ws = c.in-Ok.entry.weights in
-    let f = c.in-Ok.entry.figure.0 in
-    let next = c.in-Ok.entry.next in
-    let row = row-here M s t _ step bytes n inv.2 inv.3 c.in-Ok.entry c.in-Ok.is at inv.4 in
-    let whole : length ws ≡ 64 = search rules in
-    sym (length-take-le n ws (omega (arith, row_count M n _ _ row.reads.check)))
 
 pub invariant_of-row : goal.invariant_of-row
 invariant_of-row g c =
@@ -107,12 +89,3 @@ loop-entry-preserved g c =
       cut_put M L n _ bytes fit at ws f next row long c.args.out.now c.loop-entry.out c.put.new.out inv.6 c.requires.room c.put.ensures,
       step_left M s t _ step bytes n inv.2 inv.3 c.in-Ok.entry c.in-Ok.is at inv.4 inv.7,
     )
-
-pub returns : goal.returns
-returns g c =
-    let bytes = c.args.bytes.now in
-    let at = c.loop-entry.at in
-    let inv = c.loop-entry.invariant in
-    let done : length bytes ≤ c.loop-entry.entry-iterator.at = rw (← inv.2) c.in-None.ensures.steps in
-    let end : at ≡ length bytes = omega (arith, inv.4, inv.5) in
-    inv.6.buffer ∙ ap₂ (λ us i. us ++ drop i c.args.out.now) (take_all at bytes (omega arith)) end

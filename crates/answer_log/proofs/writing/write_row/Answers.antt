@@ -3,7 +3,7 @@ use Rattle.std.proofs.Common.{◌<◌, length, refl, ap, ◌∙◌, ⊎_elim, ar
 use Rattle.std.proofs.lemmas.Result.{err_from_is_err_and}
 use Rattle.server.specs.Checks.{Count}
 use Rattle.answer_log.specs.Writes.{wrong_count, bad_row, no_figure, log_full, accepted}
-use Rattle.answer_log.proofs.Writers.{checked_length, checked_codes, checked_row, row_written}
+use Rattle.answer_log.proofs.Writers.{checked_row, row_written}
 use Rattle.answer_log.proofs.writing.write_row.Goals as goal
 
 pub returns-then-n-eq0 : goal.returns-then-n-eq0
@@ -22,18 +22,6 @@ returns-then-out-length g c =
     let fine = c.in_ok-check_row.ensures in
     let size = c.length-length.ensures ∙ ap length (checked_row g.F.Field.model _ _ fine c.args.figure.0) in
     (log_full (omega arith, omega arith) fine (omega (arith, c.size.ensures)) (omega arith), refl)
-
-pub invariant_of-row : goal.invariant_of-row
-invariant_of-row g c =
-    let M = g.F.Field.model in
-    let ws = c.args.weights.now in
-    let fine = c.in_ok-check_row.ensures in
-    let long = checked_length M c.args.n ws fine in
-    record {
-      few = omega arith;
-      elements = λ m h. checked_codes M c.args.n ws fine m (omega arith);
-      below = omega (arith, c.size.ensures);
-    }
 
 pub returns : goal.returns
 returns g c =

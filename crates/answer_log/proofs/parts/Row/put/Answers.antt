@@ -96,17 +96,6 @@ write_stored-stored-requires g c =
     let mapped = put_map M n w f o c.requires _ c.write_map.new.out a marked c.map_length-at.ensures c.write_map.ensures in
     omega (arith, part_length o _ _ (1 + a) mapped, c.map_length-at.ensures)
 
-pub overflow_add-at-2 : goal.overflow_add-at-2
-overflow_add-at-2 g c =
-    let M = g.F.Field.model in
-    let ws = c.args.self.now.weights.now in
-    let n = length ws in
-    let w = weights_of ws in
-    let f = c.args.self.now.figure.0 in
-    let o = c.args.out.now in
-    let room = room_all M n w f o c.requires in
-    omega (arith, c.map_length-at.ensures, c.write_stored-stored.ensures.length)
-
 pub slice_bounds-encode-count : goal.slice_bounds-encode-count
 slice_bounds-encode-count g c =
     let M = g.F.Field.model in

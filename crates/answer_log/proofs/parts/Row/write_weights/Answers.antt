@@ -1,5 +1,5 @@
 -- Answers for `write_weights`: one weight more.
-use Rattle.std.proofs.Common.{◌≡◌, ℕ, ◌+◌, ◌-◌, ◌<◌, ◌≤◌, ◌++◌, length, take, drop, sym, ap, ◌∙◌, ap₂, arith, rules}
+use Rattle.std.proofs.Common.{◌≡◌, ℕ, ◌+◌, ◌-◌, ◌<◌, ◌≤◌, ◌++◌, length, take, drop, sym, ap, ◌∙◌, ap₂, arith}
 use Rattle.field.specs.Model.{FieldModel}
 use Rattle.field.specs.Bytes.{width, written}
 use Rattle.field.specs.Sums.{Vector, weights_of}
@@ -26,19 +26,6 @@ room_below M w n m room h all =
     let rise = weights_rise M w m (n - m) in
     let same = ap (λ i. length (weight_bytes M w i)) rest in
     omega arith
-
-pub slice_bounds-encode-count : goal.slice_bounds-encode-count
-slice_bounds-encode-count g c =
-    let ws = c.args.self.now.weights.now in
-    let below = room_below g.F.Field.model (weights_of ws) (length ws) c.loop-weight.weight-index (length c.args.out.now) (omega arith) c.requires in
-    omega (arith, c.loop-weight.invariant.0)
-
-pub slice_bounds-encode-start : goal.slice_bounds-encode-start
-slice_bounds-encode-start g c =
-    let ws = c.args.self.now.weights.now in
-    let below = room_below g.F.Field.model (weights_of ws) (length ws) c.loop-weight.weight-index (length c.args.out.now) (omega arith) c.requires in
-    let h : c.loop-weight.at ≤ length c.loop-weight.out = omega (arith, c.loop-weight.invariant.0) in
-    search rules
 
 pub loop-weight-preserved : goal.loop-weight-preserved
 loop-weight-preserved g c =

@@ -32,19 +32,3 @@ returns-then-named-eq0 g c =
     } in
     none_named mapped (none_stray bs c.args.self.now.count (none_given _ _ _ (sym c.is_some.ensures ∙ c.if-is_some.false) c.stray_bit.ensures))
     (sym (count_is bs c.args.self.now.count c.args.self.now.count _ c.named_count-named.ensures) ∙ c.if-named-eq0.true)
-
-pub returns : goal.returns
-returns g c =
-    let bs = c.args.self.now.bytes.now in
-    let count = count_is bs c.args.self.now.count c.args.self.now.count _ c.named_count-named.ensures in (
-      record {
-        mapped = record {
-          count = c.args.self.now.counted;
-          known = omega (arith, c.mark.ensures);
-          whole = omega (arith, c.map_length.ensures);
-        };
-        no_stray = none_stray bs c.args.self.now.count (none_given _ _ _ (sym c.is_some.ensures ∙ c.if-is_some.false) c.stray_bit.ensures);
-        some_named = λ none. c.if-named-eq0.false (count ∙ none);
-      },
-      count,
-    )

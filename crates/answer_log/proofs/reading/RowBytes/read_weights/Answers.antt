@@ -11,13 +11,6 @@ use Rattle.answer_log.proofs.reading.RowBytes.read_weights.Goals.{then-is_named+
 pub loop-m-init : goal.loop-m-init
 loop-m-init g c = (refl, λ k h. absurd (omega arith), λ k h. absurd (omega arith), λ k h. zeros 64 k)
 
-pub named_weight-weight-requires : goal.named_weight-weight-requires
-named_weight-weight-requires g c =
-    record {
-      some = omega (arith, c.requires.named.mapped.whole);
-      bit = bit_is c.args.self.now.bytes.now c.args.self.now.count c.loop-m.m _ _ c.from.ensures c.is_named.ensures ∙ c.if-is_named.true;
-    }
-
 pub returns-then-weight-size : goal.returns-then-weight-size
 returns-then-weight-size g c =
     let bs = c.args.self.now.bytes.now in
@@ -65,13 +58,3 @@ loop-m-preserved g c =
             λ k h. kept k ∙ inv.3 k (omega arith),
           )
     ]
-
-pub returns : goal.returns
-returns g c =
-    let inv = c.loop-m.invariant in
-    let all : c.loop-m.m ≡ c.args.self.now.count = omega arith in (
-      inv.0,
-      λ m f. inv.1 m (omega (arith, f.0)) f,
-      λ m h. inv.2 m (omega arith),
-      λ m h. inv.3 m (omega arith),
-    )

@@ -1,6 +1,6 @@
-use Rattle.std.proofs.Common.{sym, ◌∙◌, arith, rules}
+use Rattle.std.proofs.Common.{sym, ◌∙◌, arith}
 use Rattle.std.proofs.lemmas.Result.{err_from_is_err_and}
-use Rattle.query.proofs.ItemChecks.{stands-within, spaced_moves, item_fault, item_repeated, item_weighed, weighed-plain, weighed_fault, weighed_more}
+use Rattle.query.proofs.ItemChecks.{spaced_moves, item_fault, item_repeated, item_weighed, weighed-plain, weighed_fault, weighed_more}
 use Rattle.query.proofs.reader.Reader.read_item.Goals as goal
 
 pub returns-in_err-found : goal.returns-in_err-found
@@ -24,10 +24,6 @@ returns-then-not-stands c =
     sym (item_weighed _ _ c.args.self.now.line.now c.args.at.0 c.in_ok-found.found (sym c.read_spaced.ensures ∙ c.in_ok-found.was)
     (sym c.names.ensures ∙ c.if-names.false)
     ∙ weighed-plain c.args.self.now.limits c.args.self.now.line.now c.in_ok-found.found (sym c.stands.ensures ∙ c.if-not-stands.true))
-
-pub overflow_add-found : goal.overflow_add-found
-overflow_add-found c =
-    let h = stands-within c.args.self.now.line.now c.in_ok-found.found.after.0 58 (sym c.stands.ensures ∙ c.if-not-stands.false) in search rules
 
 pub returns-in_err-weight : goal.returns-in_err-weight
 returns-in_err-weight c =

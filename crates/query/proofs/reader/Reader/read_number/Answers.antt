@@ -48,13 +48,6 @@ returns-then-count-gt5 c =
     number_long _ _ line at _ (sym c.read_digit.ensures ∙ c.in_ok-first.was)
     (tested line at _ _ _ _ n c.leading_zero.ensures c.if-leading_zero.false) (omega (arith, n))
 
-pub slice_bounds-digits_worth-end : goal.slice_bounds-digits_worth-end
-slice_bounds-digits_worth-end c =
-    let line = c.args.self.now.line.now in
-    let at = c.args.at.0 in
-    let n = counted line at _ c.digit_count-count.ensures in
-    n ∙ ap length (sym (part line at _ n))
-
 pub digits_worth-value-requires : goal.digits_worth-value-requires
 digits_worth-value-requires c =
     let line = c.args.self.now.line.now in

@@ -1,16 +1,12 @@
-use Rattle.std.proofs.Common.{sym, ap, ◌∙◌, rules}
+use Rattle.std.proofs.Common.{sym, ap, ◌∙◌}
 use Rattle.std.proofs.lemmas.Result.{err_from_is_err_and}
 use Rattle.query.specs.Items.{of_item}
-use Rattle.query.proofs.ItemChecks.{stands-within, spaced_none, spaced-some}
+use Rattle.query.proofs.ItemChecks.{spaced_none, spaced-some}
 use Rattle.query.proofs.reader.Reader.read_spaced.Goals as goal
 
 pub returns-then-not-stands : goal.returns-then-not-stands
 returns-then-not-stands c =
     sym (spaced_none _ c.args.self.now.line.now c.args.at.0 (sym c.stands.ensures ∙ c.if-not-stands.true))
-
-pub overflow_add-at : goal.overflow_add-at
-overflow_add-at c =
-    let h = stands-within c.args.self.now.line.now c.args.at.0 32 (sym c.stands.ensures ∙ c.if-not-stands.false) in search rules
 
 pub returns-in_err-read_number : goal.returns-in_err-read_number
 returns-in_err-read_number c =
