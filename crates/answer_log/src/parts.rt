@@ -91,6 +91,7 @@ impl<F: Field> Row<'_, F> {
         ensures length { result ≡ length (weight_bytes F.model (weights_of self.now.weights.now) (length self.now.weights.now)) }
         ensures buffer { out.new ≡ weight_bytes F.model (weights_of self.now.weights.now) (length self.now.weights.now) ++ drop result out.old }
     {
+        // The rest of the buffer is lent for each weight, so the place is counted beside the loop.
         let mut at = 0;
         for weight in self.weights {
             if weight.0 != 0 {

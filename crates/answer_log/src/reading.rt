@@ -11,6 +11,7 @@ use member_map::{is_named, map_length, named_count, stray_bit};
 use refusal::{LogRow, Member, Refusal, Site};
 
 // A row as it was read: its weights, 0 from the count on, its figure, and where the next row begins.
+// 64 places and no Vec: the library crates have fixed memory.
 #[derive(Clone, Copy)]
 pub struct LogEntry {
     pub weights: [Element; 64],

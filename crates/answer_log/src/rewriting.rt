@@ -17,7 +17,7 @@ pub fn check_log<F: Field>(bytes: &[u8], n: usize) -> Result<(), Refusal>
 {
     read_header::<F>(bytes, n)?;
     for entry in LogRows::<F>::new(bytes, n) {
-        let _ = entry?;
+        entry?;
     }
     Ok(())
 }
@@ -29,6 +29,7 @@ fn rewrite_rows<F: Field>(bytes: &[u8], n: usize, out: &mut [u8])
     requires room { length bytes.now ≤ length out.old }
     ensures { out.new ≡ onto bytes.now out.old }
 {
+    // A row's place is not in its entry, and the rest of the buffer is lent from there on.
     let mut at = 2;
     for entry in LogRows::<F>::new(bytes, n) {
         let Ok(entry) = entry else {

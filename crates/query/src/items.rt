@@ -8,7 +8,7 @@ use crate::reader::Reader;
 use field::Element;
 use refusal::{BytePlace, Member};
 
-// A weight for each of 64 members, 0 at those not named.
+// A weight for each of 64 members, 0 at those not named. An array and no Vec: the library crates have fixed memory.
 #[derive(Clone, Copy)]
 pub struct Weights(pub [Element; 64]);
 
