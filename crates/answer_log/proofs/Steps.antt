@@ -64,10 +64,13 @@ module _ {V : Type 0} (M : FieldModel) (s t : LogRows V) (x : Result LogEntry Re
       unfolding Told
       bad = subst (λ (y : Result LogEntry Refusal). Told n bytes y) is told
 
+      pub row_bad : EntryCheck M n (number s) (drop s.at bytes) (Some e)
+      row_bad = bad.0
+
       pub step-refused : RowsCheck M n s.row (drop s.at bytes) (Some e)
-      step-refused = row-refused M n s.row bytes s.at left_within e bad.0
+      step-refused = row-refused M n s.row bytes s.at left_within e row_bad
 
       pub step_fine : (at : ℕ) → s.at ≡ at → RowsCheck M n s.row (drop at bytes) None → ⊥
       step_fine at here all =
           excluded M n _ _ e
-          (row_fine M n s.row bytes s.at left_within (subst (λ (i : ℕ). RowsCheck M n s.row (drop i bytes) None) (sym here) all)) bad.0
+          (row_fine M n s.row bytes s.at left_within (subst (λ (i : ℕ). RowsCheck M n s.row (drop i bytes) None) (sym here) all)) row_bad
