@@ -2,6 +2,7 @@
 use Rattle.std.proofs.Common.{◌≡◌, ℕ, ◌+◌, ◌-◌, ◌<◌, ◌≤◌, List, [], ◌∷◌, ◌++◌, length, take, drop, set, Some, None, Option, sym, ap, ◌∙◌, ap₂, arith, MatchOption}
 use borrow.Rule.Slice.PartMut.{put_mid}
 use Rattle.std.proofs.lemmas.List.{append_assoc, length-append}
+use Rattle.std.specs.Option.{unwrap_or}
 use Rattle.field.specs.Model.{FieldModel}
 use Rattle.field.specs.Bytes.{width, written}
 use Rattle.field.specs.Sums.{Vector}
@@ -75,3 +76,11 @@ pub encoded :
     → after ≡ written M e ++ drop (width M) before
 encoded M e before after None h room told = absurd (told.1 h room)
 encoded M e before after (Some k) h room told = told.3
+
+pub encoded_count :
+    (M : FieldModel) (e : ℕ) (before after : List ℕ) (r : Option ℕ) → e < M.size → width M ≤ length before
+    → MatchOption r ((after ≡ before) × (e < M.size → width M ≤ length before → ⊥))
+    (λ k. (e < M.size) × (k ≡ width M) × (k ≤ length before) × (after ≡ written M e ++ drop (width M) before))
+    → unwrap_or r 0 ≡ width M
+encoded_count M e before after None h room told = absurd (told.1 h room)
+encoded_count M e before after (Some k) h room told = told.1

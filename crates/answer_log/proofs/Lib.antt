@@ -7,3 +7,4 @@ pub mod Back
 pub mod Writers
 pub mod Readers
 pub mod Logs
+pub mod Steps

@@ -1,11 +1,14 @@
 -- The stored weights of a row: their bytes, one member more, and where each stands. Assumes nothing.
-use Rattle.std.proofs.Common.{◌≡◌, ℕ, zero, suc, ◌+◌, ◌*◌, ◌<◌, ◌≤◌, true, false, cond, not, leb, List, [], ◌++◌, length, get_or, take, drop, Decides, sym, refl, ap, ◌∙◌, ap₂, ⊎_elim, add-zero, mul-le-mul_left, mul-zero, mul-one, mul-add, add-one, arith}
-use Rattle.std.proofs.lemmas.List.{append-nil, append_assoc, length-append, drop-drop}
+use Rattle.std.proofs.Common.{◌≡◌, ℕ, zero, suc, ◌+◌, ◌*◌, ◌<◌, ◌≤◌, Bool, true, false, cond, not, eqb, leb, List, [], ◌++◌, length, get_or, take, drop, Decides, sym, refl, ap, ◌∙◌, ap₂, ⊎_elim, add-zero, mul-le-mul_left, mul-zero, mul-one, mul-add, add-mul, one-mul, zero-mul, add-one, arith}
+use Rattle.std.proofs.lemmas.List.{append-nil, append_assoc, length-append, drop-drop, take_all}
 use Rattle.std.proofs.lemmas.Bool.{cases_Bool, cases_eq, cases_lt, eq-eqb, ne_eqb}
 use Rattle.std.proofs.lemmas.Bool.Decides.{Decides-below_and, Decides-like, same_from_decides, nat_tests}
 use Rattle.field.specs.Model.{FieldModel}
 use Rattle.field.specs.Bytes.{width, written, code_at}
-use Rattle.field.specs.Sums.{Vector}
+use Rattle.std.specs.List.{count_by}
+use Rattle.std.proofs.lemmas.List.Sums.{count_by_more_yes, count_by_more_no}
+use Rattle.field.specs.declared.Element.{Element}
+use Rattle.field.specs.Sums.{Vector, weights_of}
 use Rattle.member_map.specs.Maps.{named, named_below}
 use Rattle.member_map.proofs.Counts.{none_below, below-named, below_unnamed, below_rises}
 use Rattle.answer_log.specs.Rows.{names, plain, weight_bytes}
@@ -151,3 +154,28 @@ module _ (M : FieldModel) (w : Vector) where
           (cases_Bool (named map m))
           in
           ap (weight_bytes M w) (sym next) ∙ here ∙ ap (λ k. take k (drop base bs)) wide
+
+-- a width for each weight that is not 0
+module _ (M : FieldModel) (ws : List Element) where
+  p : Element → Bool
+  p e = not (eqb e.0 0)
+
+  taken : (k : ℕ) → k ≤ length ws → length (weight_bytes M (weights_of ws) k) ≡ count_by p (take k ws) * width M
+  unfolding p
+  taken zero h = ap length (weights_none M (weights_of ws)) ∙ sym (zero-mul (width M))
+  taken (suc k) h =
+      let w = weights_of ws in
+      let within : k < length ws = omega arith in
+      let before = taken k (omega arith) in
+      ap (λ i. length (weight_bytes M w i)) (sym (add-one k))
+      ∙ ⊎_elim
+      (λ e.
+      length-named M w k e ∙ ap (λ j. j + width M) before
+      ∙ sym (ap (λ j. j * width M) (count_by_more_yes p ws k (record { 0 = 0 }) within e) ∙ add-mul (count_by p (take k ws)) 1 (width M) ∙ ap (λ j. count_by p (take k ws) * width M + j) (one-mul (width M))))
+      (λ e. ap length (weights_unnamed M w k e) ∙ before ∙ sym (ap (λ j. j * width M) (count_by_more_no p ws k (record { 0 = 0 }) within e)))
+      (cases_Bool (names w k))
+      ∙ ap (λ i. count_by p (take i ws) * width M) (add-one k)
+
+  pub length-weights : length (weight_bytes M (weights_of ws) (length ws)) ≡ count_by (λ e. not (eqb e.0 0)) ws * width M
+  unfolding p
+  length-weights = taken (length ws) (omega arith) ∙ ap (λ xs. count_by p xs * width M) (take_all (length ws) ws (omega arith))

@@ -1,4 +1,5 @@
 pub mod Rows
 pub mod Entries
 pub mod Writes
+pub mod Steps
 pub mod Logs

@@ -1,56 +1,36 @@
-// The parts of a row in bytes: the mark's test, the member map, the weights.
-ghost use Rattle.std.specs.Prelude.{◌≡◌, ◌<◌, ◌≤◌, ◌++◌, length, drop};
+// A row in bytes, part by part: the mark, the member map, the weights, the figure.
+ghost use Rattle.std.specs.Prelude.{◌≡◌, ℕ, ◌<◌, ◌≤◌, ◌++◌, length, drop};
 ghost use Rattle.field.specs.Sums.{Codes, weights_of};
 ghost use Rattle.member_map.specs.Maps.{map_length_lem};
-ghost use Rattle.answer_log.specs.Rows.{names, mark as mark-of-row, plain, map_byte_lem, map_bytes, weight_bytes, stored_bytes};
+ghost use Rattle.buffer.specs.Buffers.{onto};
+ghost use Rattle.answer_log.specs.Rows.{names, mark as mark-of-row, plain, map_byte_lem, map_bytes, weight_bytes, stored_bytes, row_bytes};
 
 use field::{Element, Field, element_width, encode};
 use member_map::map_length;
+use std::marker::PhantomData;
+
+// A row that is written: the weights of its members and its figure, each an element.
+#[derive(Drop)]
+pub(crate) struct Row<'a, F: Field> {
+    pub weights: &'a [Element],
+    pub figure: Element,
+    pub field: PhantomData<F>,
+    ghost few: { length weights.now ≤ 64 },
+    ghost elements: { Codes F.model (length weights.now) (weights_of weights.now) },
+    ghost below: { figure.0 < F.model.size },
+}
 
 // Whether every weight is 0 or 1, so that none is stored.
 pub(crate) fn is_plain(weights: &[Element]) -> bool
     ensures { result ≡ plain (weights_of weights.now) (length weights.now) }
 {
-    for weight in weights {
-        if weight.0 > 1 {
-            return false;
-        }
-    }
-    true
-}
-
-// The mark of a row.
-pub(crate) fn mark(weights: &[Element]) -> u8
-    ensures { result ≡ mark-of-row (weights_of weights.now) (length weights.now) }
-{
-    if is_plain(weights) { 0 } else { 1 }
-}
-
-// How many bytes the stored weights take.
-pub(crate) fn stored_length<F: Field>(weights: &[Element]) -> usize
-    requires { length weights.now ≤ 64 }
-    ensures is { result ≡ length (stored_bytes F.model (weights_of weights.now) (length weights.now)) }
-    ensures few { result ≤ 128 }
-{
-    let mut total = 0;
-    if is_plain(weights) {
-        return total;
-    }
-    for weight in weights {
-        if weight.0 != 0 {
-            total += element_width::<F>();
-        }
-    }
-    total
+    weights.iter().all(|weight| weight.0 <= 1)
 }
 
 fn is_named(weights: &[Element], m: usize) -> bool
     ensures { result ≡ names (weights_of weights.now) m }
 {
-    match weights.get(m) {
-        Some(weight) => weight.0 != 0,
-        None => false,
-    }
+    weights.get(m).is_some_and(|weight| weight.0 != 0)
 }
 
 // Byte `k` of the member map of the named members.
@@ -67,44 +47,81 @@ fn map_byte(weights: &[Element], k: usize) -> u8
     byte
 }
 
-// Writes the member map to the front of `out`.
-pub(crate) fn write_map(weights: &[Element], out: &mut [u8])
-    requires few { length weights.now ≤ 64 }
-    requires room { map_length_lem (length weights.now) ≤ length out.old }
-    ensures { out.new ≡ map_bytes (weights_of weights.now) (length weights.now) ++ drop (map_length_lem (length weights.now)) out.old }
-{
-    for k in 0..map_length(weights.len() as u8) {
-        out[k] = map_byte(weights, k);
+impl<F: Field> Row<'_, F> {
+    fn mark(&self) -> u8
+        ensures { result ≡ mark-of-row (weights_of self.now.weights.now) (length self.now.weights.now) }
+    {
+        if is_plain(self.weights) { 0 } else { 1 }
     }
-}
 
-// Writes the weights of the named members to the front of `out`, and answers how many bytes they take.
-fn write_weights<F: Field>(weights: &[Element], out: &mut [u8]) -> usize
-    requires elements { Codes F.model (length weights.now) (weights_of weights.now) }
-    requires room { length (weight_bytes F.model (weights_of weights.now) (length weights.now)) ≤ length out.old }
-    ensures length { result ≡ length (weight_bytes F.model (weights_of weights.now) (length weights.now)) }
-    ensures buffer { out.new ≡ weight_bytes F.model (weights_of weights.now) (length weights.now) ++ drop result out.old }
-{
-    let mut at = 0;
-    for weight in weights {
-        if weight.0 != 0 {
-            if let Some(k) = encode::<F>(*weight, &mut out[at..]) {
-                at += k;
-            }
+    // How many bytes the stored weights take.
+    fn stored_length(&self) -> usize
+        ensures is { result ≡ length (stored_bytes F.model (weights_of self.now.weights.now) (length self.now.weights.now)) }
+        ensures few { result ≤ 128 }
+    {
+        if is_plain(self.weights) {
+            return 0;
+        }
+        let named = self.weights.iter().filter(|weight| weight.0 != 0);
+        named.count() * element_width::<F>()
+    }
+
+    // How many bytes the row has.
+    pub(crate) fn length(&self) -> usize
+        ensures { result ≡ length (row_bytes F.model (length self.now.weights.now) (weights_of self.now.weights.now) self.now.figure.0) }
+    {
+        let map = map_length(self.weights.len() as u8);
+        1 + map + self.stored_length() + element_width::<F>()
+    }
+
+    // Writes the member map to the front of `out`.
+    fn write_map(&self, out: &mut [u8])
+        requires { map_length_lem (length self.now.weights.now) ≤ length out.old }
+        ensures { out.new ≡ map_bytes (weights_of self.now.weights.now) (length self.now.weights.now) ++ drop (map_length_lem (length self.now.weights.now)) out.old }
+    {
+        let map = &mut out[..map_length(self.weights.len() as u8)];
+        for (k, byte) in map.iter_mut().enumerate() {
+            *byte = map_byte(self.weights, k);
         }
     }
-    at
-}
 
-// Writes the stored weights to the front of `out`, and answers how many bytes they take.
-pub(crate) fn write_stored<F: Field>(weights: &[Element], out: &mut [u8]) -> usize
-    requires elements { Codes F.model (length weights.now) (weights_of weights.now) }
-    requires room { length (stored_bytes F.model (weights_of weights.now) (length weights.now)) ≤ length out.old }
-    ensures length { result ≡ length (stored_bytes F.model (weights_of weights.now) (length weights.now)) }
-    ensures buffer { out.new ≡ stored_bytes F.model (weights_of weights.now) (length weights.now) ++ drop result out.old }
-{
-    if is_plain(weights) {
-        return 0;
+    // Writes the weights of the named members to the front of `out`, and answers how many bytes they take.
+    fn write_weights(&self, out: &mut [u8]) -> usize
+        requires { length (weight_bytes F.model (weights_of self.now.weights.now) (length self.now.weights.now)) ≤ length out.old }
+        ensures length { result ≡ length (weight_bytes F.model (weights_of self.now.weights.now) (length self.now.weights.now)) }
+        ensures buffer { out.new ≡ weight_bytes F.model (weights_of self.now.weights.now) (length self.now.weights.now) ++ drop result out.old }
+    {
+        // The rest of the buffer is lent for each weight, so the place is counted beside the loop.
+        let mut at = 0;
+        for weight in self.weights {
+            if weight.0 != 0 {
+                at += encode::<F>(*weight, &mut out[at..]).unwrap_or(0);
+            }
+        }
+        at
     }
-    write_weights::<F>(weights, out)
+
+    // Writes the stored weights to the front of `out`, and answers how many bytes they take.
+    fn write_stored(&self, out: &mut [u8]) -> usize
+        requires { length (stored_bytes F.model (weights_of self.now.weights.now) (length self.now.weights.now)) ≤ length out.old }
+        ensures length { result ≡ length (stored_bytes F.model (weights_of self.now.weights.now) (length self.now.weights.now)) }
+        ensures buffer { out.new ≡ stored_bytes F.model (weights_of self.now.weights.now) (length self.now.weights.now) ++ drop result out.old }
+    {
+        if is_plain(self.weights) {
+            return 0;
+        }
+        self.write_weights(out)
+    }
+
+    // Writes the row to the front of `out`, which has room for it.
+    pub(crate) fn put(&self, out: &mut [u8])
+        requires { length (row_bytes F.model (length self.now.weights.now) (weights_of self.now.weights.now) self.now.figure.0) ≤ length out.old }
+        ensures { out.new ≡ onto (row_bytes F.model (length self.now.weights.now) (weights_of self.now.weights.now) self.now.figure.0) out.old }
+    {
+        out[0] = self.mark();
+        self.write_map(&mut out[1..]);
+        let at = 1 + map_length(self.weights.len() as u8);
+        let stored = self.write_stored(&mut out[at..]);
+        let _ = encode::<F>(self.figure, &mut out[at + stored..]);
+    }
 }

@@ -11,6 +11,7 @@ use member_map::{is_named, map_length, named_count, stray_bit};
 use refusal::{LogRow, Member, Refusal, Site};
 
 // A row as it was read: its weights, 0 from the count on, its figure, and where the next row begins.
+// 64 places and no Vec: the library crates have fixed memory.
 #[derive(Clone, Copy)]
 pub struct LogEntry {
     pub weights: [Element; 64],
@@ -38,130 +39,124 @@ pub fn read_header<F: Field>(bytes: &[u8], n: usize) -> Result<(), Refusal>
     Ok(())
 }
 
-fn mark_of(rest: &[u8]) -> u8
-    ensures { result ≡ mark_of rest.now }
-{
-    match rest.first() {
-        Some(mark) => *mark,
-        None => 0,
-    }
+// The bytes of a log from a row on, for a server of `count` members, and the row's number.
+#[derive(Clone, Copy)]
+struct RowBytes<'a> {
+    bytes: &'a [u8],
+    count: u8,
+    row: LogRow,
+    ghost counted: { Count count },
 }
 
-// How many members the row names.
-fn count_named<F: Field>(rest: &[u8], n: u8, row: LogRow) -> Result<usize, Refusal>
-    requires { Count n }
-    ensures { MatchResult result (λ k. Named n rest.now × (k ≡ named_below (map_of rest.now) n)) (λ e. EntryCheck F.model n row rest.now (Some e)) }
-{
-    if mark_of(rest) > 1 {
-        return Err(Refusal::UnknownMark(row));
+impl RowBytes<'_> {
+    fn mark(&self) -> u8
+        ensures { result ≡ mark_of self.now.bytes.now }
+    {
+        self.bytes.first().copied().unwrap_or(0)
     }
-    if rest.len() < 1 + map_length(n) {
-        return Err(Refusal::WrongLength(Site::OfRow(row)));
-    }
-    let map = &rest[1..];
-    if let Some(_) = stray_bit(map, n) {
-        return Err(Refusal::StrayMapBit(Site::OfRow(row)));
-    }
-    let named = named_count(map, n);
-    if named == 0 {
-        return Err(Refusal::NoMemberNamed(Site::OfRow(row)));
-    }
-    Ok(named)
-}
 
-// Where the figure of the row stands, which is its last part.
-fn find_figure<F: Field>(rest: &[u8], n: u8, row: LogRow) -> Result<usize, Refusal>
-    requires { Count n }
-    ensures { MatchResult result (λ p. Framed F.model n rest.now × (p ≡ figure_place F.model n rest.now)) (λ e. EntryCheck F.model n row rest.now (Some e)) }
-{
-    let named = match count_named::<F>(rest, n, row) {
-        Ok(named) => named,
-        Err(e) => return Err(e),
-    };
-    let mut place = 1 + map_length(n);
-    if mark_of(rest) == 1 {
-        place += element_width::<F>() * named;
-    }
-    if rest.len() < place + element_width::<F>() {
-        return Err(Refusal::WrongLength(Site::OfRow(row)));
-    }
-    Ok(place)
-}
-
-// The weight of a named member.
-fn named_weight<F: Field>(rest: &[u8], n: u8, m: u8) -> Element
-    requires some { 1 ≤ length rest.now }
-    requires bit { named (map_of rest.now) m ≡ true }
-    ensures { result.0 ≡ row_weight F.model n rest.now m }
-{
-    if mark_of(rest) != 1 {
-        return Element(1);
-    }
-    let at = 1 + map_length(n) + element_width::<F>() * named_count(&rest[1..], m);
-    decode::<F>(rest, at)
-}
-
-// The weights of the row, each that is stored an element other than 0.
-fn read_weights<F: Field>(rest: &[u8], n: u8, row: LogRow) -> Result<[Element; 64], Refusal>
-    requires { Framed F.model n rest.now }
-    ensures { MatchResult result (λ ws. (length ws ≡ 64) × ((m : ℕ) → Faulty F.model n rest.now m → ⊥) × ((m : ℕ) → m < n → weights_of ws m ≡ row_weight F.model n rest.now m) × ((m : ℕ) → n ≤ m → weights_of ws m ≡ 0)) (λ e. EntryCheck F.model n row rest.now (Some e)) }
-{
-    let mut weights = [Element(0); 64];
-    let map = &rest[1..];
-    for m in 0..n {
-        let member = Member(usize::from(m));
-        if is_named(map, member) {
-            let weight = named_weight::<F>(rest, n, m);
-            if weight.0 >= F::size() {
-                return Err(Refusal::NotAnElement(Site::OfRow(row)));
-            }
-            if weight.0 == 0 {
-                return Err(Refusal::StoredZero(Site::OfRow(row)));
-            }
-            weights[usize::from(m)] = weight;
+    // How many members the row names.
+    fn count_named<F: Field>(&self) -> Result<usize, Refusal>
+        ensures { MatchResult result (λ k. Named self.now.count self.now.bytes.now × (k ≡ named_below (map_of self.now.bytes.now) self.now.count)) (λ e. EntryCheck F.model self.now.count self.now.row self.now.bytes.now (Some e)) }
+    {
+        if self.mark() > 1 {
+            return Err(Refusal::UnknownMark(self.row));
         }
+        if self.bytes.len() < 1 + map_length(self.count) {
+            return Err(Refusal::WrongLength(Site::OfRow(self.row)));
+        }
+        let map = &self.bytes[1..];
+        if stray_bit(map, self.count).is_some() {
+            return Err(Refusal::StrayMapBit(Site::OfRow(self.row)));
+        }
+        let named = named_count(map, self.count);
+        if named == 0 {
+            return Err(Refusal::NoMemberNamed(Site::OfRow(self.row)));
+        }
+        Ok(named)
     }
-    Ok(weights)
-}
 
-// The weights of the row, stored only where one is not 1.
-fn weigh<F: Field>(rest: &[u8], n: u8, row: LogRow) -> Result<[Element; 64], Refusal>
-    requires { Framed F.model n rest.now }
-    ensures { MatchResult result (λ ws. Weighed F.model n rest.now × ((m : ℕ) → m < n → weights_of ws m ≡ row_weight F.model n rest.now m) × ((m : ℕ) → n ≤ m → weights_of ws m ≡ 0)) (λ e. EntryCheck F.model n row rest.now (Some e)) }
-{
-    let weights = match read_weights::<F>(rest, n, row) {
-        Ok(weights) => weights,
-        Err(e) => return Err(e),
-    };
-    if mark_of(rest) == 1 && is_plain(&weights) {
-        return Err(Refusal::NeedlessWeights(row));
+    // Where the figure of the row stands, which is its last part.
+    fn find_figure<F: Field>(&self) -> Result<usize, Refusal>
+        ensures { MatchResult result (λ p. Framed F.model self.now.count self.now.bytes.now × (p ≡ figure_place F.model self.now.count self.now.bytes.now)) (λ e. EntryCheck F.model self.now.count self.now.row self.now.bytes.now (Some e)) }
+    {
+        let named = self.count_named::<F>()?;
+        let mut place = 1 + map_length(self.count);
+        if self.mark() == 1 {
+            place += element_width::<F>() * named;
+        }
+        if self.bytes.len() < place + element_width::<F>() {
+            return Err(Refusal::WrongLength(Site::OfRow(self.row)));
+        }
+        Ok(place)
     }
-    Ok(weights)
-}
 
-// The row that the bytes begin with, where `next` is how many bytes it has.
-fn read_first<F: Field>(rest: &[u8], n: u8, row: LogRow) -> Result<LogEntry, Refusal>
-    requires { Count n }
-    ensures { MatchResult result (λ e. Reads F.model n row rest.now (weights_of e.weights) e.figure.0 e.next) (λ e. EntryCheck F.model n row rest.now (Some e)) }
-{
-    let place = match find_figure::<F>(rest, n, row) {
-        Ok(place) => place,
-        Err(e) => return Err(e),
-    };
-    let weights = match weigh::<F>(rest, n, row) {
-        Ok(weights) => weights,
-        Err(e) => return Err(e),
-    };
-    let figure = decode::<F>(rest, place);
-    if figure.0 >= F::size() {
-        return Err(Refusal::NotAnElement(Site::OfRow(row)));
+    // The weight of a named member.
+    fn named_weight<F: Field>(&self, m: u8) -> Element
+        requires some { 1 ≤ length self.now.bytes.now }
+        requires bit { named (map_of self.now.bytes.now) m ≡ true }
+        ensures { result.0 ≡ row_weight F.model self.now.count self.now.bytes.now m }
+    {
+        if self.mark() != 1 {
+            return Element(1);
+        }
+        let named = named_count(&self.bytes[1..], m);
+        let at = 1 + map_length(self.count) + element_width::<F>() * named;
+        decode::<F>(self.bytes, at)
     }
-    let next = place + element_width::<F>();
-    Ok(LogEntry {
-        weights,
-        figure,
-        next,
-    })
+
+    // The weights of the row, each that is stored an element other than 0.
+    fn read_weights<F: Field>(&self) -> Result<[Element; 64], Refusal>
+        requires { Framed F.model self.now.count self.now.bytes.now }
+        ensures { MatchResult result (λ ws. (length ws ≡ 64) × ((m : ℕ) → Faulty F.model self.now.count self.now.bytes.now m → ⊥) × ((m : ℕ) → m < self.now.count → weights_of ws m ≡ row_weight F.model self.now.count self.now.bytes.now m) × ((m : ℕ) → self.now.count ≤ m → weights_of ws m ≡ 0)) (λ e. EntryCheck F.model self.now.count self.now.row self.now.bytes.now (Some e)) }
+    {
+        let mut weights = [Element(0); 64];
+        let map = &self.bytes[1..];
+        for m in 0..self.count {
+            let member = Member(usize::from(m));
+            if is_named(map, member) {
+                let weight = self.named_weight::<F>(m);
+                if weight.0 >= F::size() {
+                    return Err(Refusal::NotAnElement(Site::OfRow(self.row)));
+                }
+                if weight.0 == 0 {
+                    return Err(Refusal::StoredZero(Site::OfRow(self.row)));
+                }
+                weights[member.0] = weight;
+            }
+        }
+        Ok(weights)
+    }
+
+    // The weights of the row, stored only where one is not 1.
+    fn weigh<F: Field>(&self) -> Result<[Element; 64], Refusal>
+        requires { Framed F.model self.now.count self.now.bytes.now }
+        ensures { MatchResult result (λ ws. Weighed F.model self.now.count self.now.bytes.now × ((m : ℕ) → m < self.now.count → weights_of ws m ≡ row_weight F.model self.now.count self.now.bytes.now m) × ((m : ℕ) → self.now.count ≤ m → weights_of ws m ≡ 0)) (λ e. EntryCheck F.model self.now.count self.now.row self.now.bytes.now (Some e)) }
+    {
+        let weights = self.read_weights::<F>()?;
+        if self.mark() == 1 && is_plain(&weights) {
+            return Err(Refusal::NeedlessWeights(self.row));
+        }
+        Ok(weights)
+    }
+
+    // The row that the bytes begin with, where `next` is how many bytes it has.
+    fn read<F: Field>(&self) -> Result<LogEntry, Refusal>
+        ensures { MatchResult result (λ e. Reads F.model self.now.count self.now.row self.now.bytes.now (weights_of e.weights) e.figure.0 e.next) (λ e. EntryCheck F.model self.now.count self.now.row self.now.bytes.now (Some e)) }
+    {
+        let place = self.find_figure::<F>()?;
+        let weights = self.weigh::<F>()?;
+        let figure = decode::<F>(self.bytes, place);
+        if figure.0 >= F::size() {
+            return Err(Refusal::NotAnElement(Site::OfRow(self.row)));
+        }
+        let next = place + element_width::<F>();
+        Ok(LogEntry {
+            weights,
+            figure,
+            next,
+        })
+    }
 }
 
 // The row at a place of a log's bytes. Written again it is the same bytes.
@@ -176,11 +171,12 @@ pub fn read_row<F: Field>(
     if n == 0 || n > 64 {
         return Err(Refusal::WrongCount);
     }
-    let rest = &bytes[at.min(bytes.len())..];
-    let mut entry = match read_first::<F>(rest, n as u8, row) {
-        Ok(entry) => entry,
-        Err(e) => return Err(e),
+    let rest = RowBytes {
+        bytes: &bytes[at.min(bytes.len())..],
+        count: n as u8,
+        row,
     };
+    let mut entry = rest.read::<F>()?;
     entry.next += at;
     Ok(entry)
 }

@@ -3,26 +3,21 @@ ghost use Rattle.std.specs.Prelude.{◌≡◌, ◌≤◌, length, take, drop, So
 ghost use Rattle.buffer.specs.Buffers.{Put, Front, onto};
 ghost use Rattle.answer_log.specs.Logs.{RowsCheck, LogCheck, RewriteCheck};
 
-use crate::reading::{read_header, read_row};
-use crate::writing::{put_row, write_header};
+use crate::parts::Row;
+use crate::reading::read_header;
+use crate::rows::LogRows;
+use crate::writing::write_header;
 use field::Field;
-use refusal::{LogRow, Refusal};
+use refusal::Refusal;
+use std::marker::PhantomData;
 
 // Checks a log, header and rows, for a server of `n` members.
 pub fn check_log<F: Field>(bytes: &[u8], n: usize) -> Result<(), Refusal>
     ensures { MatchResult result (λ _. LogCheck F.model n bytes.now None) (λ e. LogCheck F.model n bytes.now (Some e)) }
 {
-    if let Err(e) = read_header::<F>(bytes, n) {
-        return Err(e);
-    }
-    let mut at = 2;
-    let mut row = 0;
-    while at < bytes.len() {
-        match read_row::<F>(bytes, at, n, LogRow(row)) {
-            Ok(entry) => at = entry.next,
-            Err(e) => return Err(e),
-        }
-        row += 1;
+    read_header::<F>(bytes, n)?;
+    for entry in LogRows::<F>::new(bytes, n) {
+        entry?;
     }
     Ok(())
 }
@@ -34,17 +29,19 @@ fn rewrite_rows<F: Field>(bytes: &[u8], n: usize, out: &mut [u8])
     requires room { length bytes.now ≤ length out.old }
     ensures { out.new ≡ onto bytes.now out.old }
 {
+    // A row's place is not in its entry, and the rest of the buffer is lent from there on.
     let mut at = 2;
-    let mut row = 0;
-    while at < bytes.len() {
-        let entry = match read_row::<F>(bytes, at, n, LogRow(row)) {
-            Ok(entry) => entry,
-            Err(_) => return,
+    for entry in LogRows::<F>::new(bytes, n) {
+        let Ok(entry) = entry else {
+            return;
         };
-        let weights = entry.weights;
-        put_row::<F>(&weights[..n], entry.figure, &mut out[at..]);
+        let row = Row::<F> {
+            weights: &entry.weights[..n],
+            figure: entry.figure,
+            field: PhantomData,
+        };
+        row.put(&mut out[at..]);
         at = entry.next;
-        row += 1;
     }
 }
 
@@ -52,15 +49,11 @@ fn rewrite_rows<F: Field>(bytes: &[u8], n: usize, out: &mut [u8])
 pub fn rewrite<F: Field>(bytes: &[u8], n: usize, out: &mut [u8]) -> Result<usize, Refusal>
     ensures { MatchResult result (λ k. RewriteCheck F.model n bytes.now (length out.old) None × Put bytes.now out.old out.new k) (λ e. RewriteCheck F.model n bytes.now (length out.old) (Some e) × (out.new ≡ out.old)) }
 {
-    if let Err(e) = check_log::<F>(bytes, n) {
-        return Err(e);
-    }
+    check_log::<F>(bytes, n)?;
     if out.len() < bytes.len() {
         return Err(Refusal::LogFull);
     }
-    if let Err(e) = write_header::<F>(n, out) {
-        return Err(e);
-    }
+    write_header::<F>(n, out)?;
     rewrite_rows::<F>(bytes, n, out);
     Ok(bytes.len())
 }

@@ -77,9 +77,6 @@ module _ (least limit : ℕ) (line : List ℕ) (p : ℕ) where
     tests : (eqb d 0 && ltb 1 (length (digits (drop p line)))) ≡ (eqb f.byte 48 && ltb 1 (length (f.byte ∷ f.others)))
     tests = ap (λ n. eqb d 0 && ltb 1 n) size ∙ ap (λ t. t && ltb 1 (length (f.byte ∷ f.others))) zeros
 
-    pub number-some : 1 ≤ length (digits (drop p line))
-    number-some = rw size (omega arith)
-
     pub number-zero :
         (eqb d 0 && ltb 1 (length (digits (drop p line)))) ≡ true → Err (LeadingZero (place p)) ≡ read_number least limit line p
     unfolding read_number
@@ -100,10 +97,6 @@ module _ (least limit : ℕ) (line : List ℕ) (p : ℕ) where
     number-ranged h short =
         let t = le-ltb 5 (length (f.byte ∷ f.others)) (rw size at short) in
         rw f.are (cond-false _ _ _ (sym tests ∙ h) ∙ cond-false _ _ _ t)
-
-    pub number-within : p + length (digits (drop p line)) ≤ length line
-    number-within =
-        let a = length_digits (drop p line) in let b = length-drop p line in let n = number-some in omega arith
 
     module _
         (v : ℕ) (no_zero : (eqb d 0 && ltb 1 (length (digits (drop p line)))) ≡ false) (short : length (digits (drop p line)) ≤ 5)

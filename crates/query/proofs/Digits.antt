@@ -1,10 +1,12 @@
 -- The digits at a place of a line, and what they are worth. Assumes nothing.
-use Rattle.std.proofs.Common.{◌≡◌, ℕ, suc, ◌+◌, ◌-◌, ◌*◌, ◌<◌, ◌≤◌, Bool, true, false, cond, List, [], ◌∷◌, length, get_or, take, drop, is_ok, Ok, Err, sym, refl, ap, ◌∙◌, ⊎_elim, arith, rules}
+use Rattle.std.proofs.Common.{◌≡◌, ℕ, ◌+◌, ◌-◌, ◌*◌, ◌<◌, ◌≤◌, Bool, true, false, cond, List, [], ◌∷◌, length, get_or, take, drop, sym, refl, ap, ◌∙◌, ⊎_elim, arith, rules}
 use Rattle.std.specs.Char.{is_ascii_digit}
-use Rattle.std.proofs.lemmas.List.{at_drop_more, drop_more, drop_all}
-use Rattle.std.proofs.lemmas.Bool.{cases_Bool, cases_lt, and_parts, leb-true, and_from, le-leb}
+use Rattle.std.proofs.lemmas.List.{at_drop_more}
+use Rattle.std.proofs.lemmas.Bool.{cases_Bool, and_parts, leb-true, and_from, le-leb}
 use Rattle.std.proofs.lemmas.Str.Parse.{IsNumeralModel, IsDigitsTest, numerals_by_fold, digits_value_short}
-use Rattle.query.specs.Numbers.{read_digit_lem, digits, worth}
+use Rattle.std.specs.List.{take_while}
+use Rattle.std.proofs.lemmas.List.Sums.{take_while-cons}
+use Rattle.query.specs.Numbers.{digits, worth}
 
 same-front : (t : Bool) (x : ℕ) (xs ys : List ℕ) → cond t (x ∷ xs) [] ≡ x ∷ ys → (t ≡ true) × (xs ≡ ys)
 same-front true x xs ys e = (refl, cc)
@@ -15,6 +17,12 @@ digit_range b e = let p = and_parts _ _ e in (leb-true _ _ p.0, leb-true _ _ p.1
 
 pub range_digit : (b : ℕ) → 48 ≤ b → b ≤ 57 → is_ascii_digit b ≡ true
 range_digit b l h = and_from _ _ (le-leb _ _ l) (le-leb _ _ h)
+
+-- the digits at the front are those that a test of each byte takes
+pub digits_taken : (bs : List ℕ) → digits bs ≡ take_while is_ascii_digit bs
+digits_taken [] = refl
+digits_taken (b ∷ bs) =
+    ap (λ ds. cond (is_ascii_digit b) (b ∷ ds) []) (digits_taken bs) ∙ sym (take_while-cons is_ascii_digit b bs)
 
 -- all of a list is digits: its first byte is one, and the rest are
 pub fixed-parts : (b : ℕ) (bs : List ℕ) → digits (b ∷ bs) ≡ b ∷ bs → (is_ascii_digit b ≡ true) × (digits bs ≡ bs)
@@ -61,49 +69,9 @@ pub worth-short : (bs : List ℕ) → length (digits bs) ≤ 5 → worth 0 (digi
 worth-short bs h = digits_value_short own (digits bs) 5 (digits-digits bs) h
 
 -- one more digit of a text that is all digits
-module _ (text : List ℕ) (i v : ℕ) (within : i < length text) (fixed : digits (drop i text) ≡ drop i text) where
-  parts : (is_ascii_digit (get_or text i 0) ≡ true) × (digits (drop (i + 1) text) ≡ drop (i + 1) text)
-  parts = fixed-parts _ _ (let e = drop_more text i 0 within in ap digits (sym e) ∙ fixed ∙ e)
-
-  pub digit_here : 48 ≤ get_or text i 0
-  digit_here = (digit_range _ parts.0).0
-
-  pub fixed-next : digits (drop (i + 1) text) ≡ drop (i + 1) text
-  fixed-next = parts.1
-
-  pub worth-next : worth (v * 10 + (get_or text i 0 - 48)) (drop (i + 1) text) ≡ worth v (drop i text)
+module _ (text : List ℕ) (i v : ℕ) (within : i < length text) where
+  worth-next : worth (v * 10 + (get_or text i 0 - 48)) (drop (i + 1) text) ≡ worth v (drop i text)
   worth-next = sym (at_drop_more (worth v) text i 0 within)
 
   pub worth_room : v * 10 + (get_or text i 0 - 48) ≤ worth v (drop i text)
   worth_room = rw (sym worth-next) (worth_ge _ (drop (i + 1) text))
-
-tested : {A E : Type 0} (t : Bool) (x : A) (f : E) → is_ok {E = E} (cond t (Ok x) (Err f)) ≡ true → t ≡ true
-tested true x f h = refl
-tested false x f h = h
-
-untested : {A E : Type 0} (t : Bool) (x : A) (f : E) → is_ok {E = E} (cond t (Ok x) (Err f)) ≡ false → t ≡ false
-untested true x f h = h
-untested false x f h = refl
-
--- a digit at a place: the line goes on, and the digits there are one more than those after it
-pub digit_more :
-    (line : List ℕ) (p : ℕ) → is_ok (read_digit_lem line p) ≡ true
-    → (p < length line) × (length (digits (drop p line)) ≡ suc (length (digits (drop (p + 1) line))))
-digit_more line p ok =
-    ⊎_elim
-    (λ h.
-    let e = drop_more line p 0 h in
-    let t = tested (is_ascii_digit (get_or line p 0)) _ _ (rw e at ok) in
-    (h, rw (e, t)))
-    (λ h. let e = drop_all p line h in let z : ◌≡◌ {A = ℕ} 0 1 = (let k : false ≡ true = (rw e at ok) in cc) in absurd (omega arith))
-    (cases_lt p (length line))
-
--- no digit at a place: there are none
-pub digit_none : (line : List ℕ) (p : ℕ) → is_ok (read_digit_lem line p) ≡ false → digits (drop p line) ≡ []
-digit_none line p no_digit =
-    ⊎_elim
-    (λ h.
-    let e = drop_more line p 0 h in
-    let f = untested (is_ascii_digit (get_or line p 0)) _ _ (rw e at no_digit) in rw (e, f))
-    (λ h. rw (drop_all p line h))
-    (cases_lt p (length line))

@@ -1,5 +1,5 @@
 -- A line, from what its reader finds. Assumes nothing.
-use Rattle.std.proofs.Common.{◌≡◌, ℕ, ◌<◌, ◌≤◌, cond, eqb, ltb, ◌⊎◌, List, [], ◌∷◌, length, Some, None, Ok, Err, Result, refl, ap, ◌∙◌, ⊎_elim, arith}
+use Rattle.std.proofs.Common.{◌≡◌, ℕ, ◌<◌, ◌≤◌, cond, eqb, ltb, List, [], ◌∷◌, length, Some, None, Ok, Err, Result, refl, ap, ◌∙◌, arith}
 use Rattle.std.proofs.lemmas.Bool.{cond-true, cond-false, eq-eqb, ne_eqb, lt-ltb, le-ltb}
 use Rattle.query.specs.declared.faults.ItemFault.{ItemFault}
 use Rattle.query.specs.declared.faults.LineFault.{LineFault}
@@ -69,11 +69,6 @@ module _ (lim : Limits) where
 
     pub reading-short : (k ≡ 35 → ⊥) → length line ≤ 640 → reading lim line ≡ by_kind k lim line
     reading-short e h = some line k first ∙ cond-false _ _ _ (ne_eqb _ _ e) ∙ cond-false _ _ _ (le-ltb _ _ h)
-
-    -- where the two tests before have let the line through
-    pub reading-kind :
-        ((k ≡ 35 → ⊥) × (length line ≤ 640)) ⊎ (k ≡ 35) → (k ≡ 35 → ⊥) → reading lim line ≡ by_kind k lim line
-    reading-kind way other = ⊎_elim (λ h. reading-short h.0 h.1) (λ z. absurd (other z)) way
 
 -- a line of rows: what is made of its weights
 unfoldable pub rows : {A : Type 0} → (Weights → A) → Result Weights ItemFault → Result A LineFault

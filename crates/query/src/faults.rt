@@ -7,11 +7,11 @@ ghost use Rattle.query.specs.declared.faults.LineFault.TheVariants.{Item};
 use refusal::BytePlace;
 
 // No digit stands at the place: another byte, or the line's end.
-#[derive(Clone, Copy)]
+#[derive(Clone, Copy, PartialEq, Eq, Debug)]
 pub struct DigitFault(pub BytePlace);
 
 // Each place is that of the number's first byte.
-#[derive(Clone, Copy)]
+#[derive(Clone, Copy, PartialEq, Eq, Debug)]
 pub enum NumberFault {
     NoDigit(DigitFault),
     LeadingZero(BytePlace),
@@ -19,7 +19,7 @@ pub enum NumberFault {
     OutOfRange(BytePlace),
 }
 
-#[derive(Clone, Copy)]
+#[derive(Clone, Copy, PartialEq, Eq, Debug)]
 pub enum ItemFault {
     // No space stands where an item should begin.
     NoSpace(BytePlace),
@@ -28,7 +28,7 @@ pub enum ItemFault {
     Repeated(BytePlace),
 }
 
-#[derive(Clone, Copy)]
+#[derive(Clone, Copy, PartialEq, Eq, Debug)]
 pub enum LineFault {
     TooLong,
     // The line is empty, or its first character begins no line.

@@ -1,13 +1,14 @@
 // The items of a line, each after one space.
-ghost use Rattle.std.specs.Prelude.{◌≡◌, ◌<◌, ◌≤◌};
+ghost use Rattle.std.specs.Prelude.{◌≡◌, ◌<◌};
 ghost use Rattle.query.specs.Items.{names, read_spaced_lem, read_item_lem, read_items_lem, no_weights};
 
 use crate::faults::ItemFault;
-use crate::numbers::{Numeral, read_number, stands};
+use crate::numbers::Numeral;
+use crate::reader::Reader;
 use field::Element;
 use refusal::{BytePlace, Member};
 
-// A weight for each of 64 members, 0 at those not named.
+// A weight for each of 64 members, 0 at those not named. An array and no Vec: the library crates have fixed memory.
 #[derive(Clone, Copy)]
 pub struct Weights(pub [Element; 64]);
 
@@ -25,66 +26,64 @@ pub(crate) struct Item {
     pub after: BytePlace,
 }
 
-// Reads a space and the number after it, which is below `limit`.
-pub(crate) fn read_spaced(line: &[u8], at: BytePlace, limit: u32) -> Result<Numeral, ItemFault>
-    ensures { result ≡ read_spaced_lem limit line.now at.0 }
-{
-    if !stands(line, at, ' ') {
-        return Err(ItemFault::NoSpace(at));
+impl Weights {
+    // Whether a member has a weight already.
+    fn names(&self, member: Member) -> bool
+        requires { member.0 < 64 }
+        ensures { result ≡ names self.now.0 member.0 }
+    {
+        self.0[member.0].0 != 0
     }
-    Ok(read_number(line, BytePlace(at.0 + 1), 0, limit)?)
 }
 
-// Whether a member has a weight already.
-fn is_named(weights: &Weights, member: Member) -> bool
-    requires { member.0 < 64 }
-    ensures { result ≡ names weights.now.0 member.0 }
-{
-    weights.0[member.0].0 != 0
-}
-
-// Reads an item: a member that is not named yet, with or without a weight.
-fn read_item(line: &[u8], at: BytePlace, limits: Limits, named: &Weights) -> Result<Item, ItemFault>
-    requires { limits.members ≤ 64 }
-    ensures { result ≡ read_item_lem limits named.now.0 line.now at.0 }
-{
-    let found = read_spaced(line, at, limits.members)?;
-    let member = Member(found.value as usize);
-    if is_named(named, member) {
-        return Err(ItemFault::Repeated(found.start));
+impl Reader<'_> {
+    // Reads a space and the number after it, which is below `limit`.
+    pub(crate) fn read_spaced(&self, at: BytePlace, limit: u32) -> Result<Numeral, ItemFault>
+        ensures { result ≡ read_spaced_lem limit self.now.line.now at.0 }
+    {
+        if !self.stands(at, ' ') {
+            return Err(ItemFault::NoSpace(at));
+        }
+        Ok(self.read_number(BytePlace(at.0 + 1), 0, limit)?)
     }
-    if !stands(line, found.after, ':') {
-        return Ok(Item {
+
+    // Reads an item: a member that is not named yet, with or without a weight.
+    fn read_item(&self, at: BytePlace, named: &Weights) -> Result<Item, ItemFault>
+        ensures { result ≡ read_item_lem self.now.limits named.now.0 self.now.line.now at.0 }
+    {
+        let found = self.read_spaced(at, self.limits.members)?;
+        let member = Member(found.value as usize);
+        if named.names(member) {
+            return Err(ItemFault::Repeated(found.start));
+        }
+        if !self.stands(found.after, ':') {
+            return Ok(Item {
+                member,
+                weight: Element(1),
+                after: found.after,
+            });
+        }
+        let weight = self.read_number(BytePlace(found.after.0 + 1), 1, self.limits.size)?;
+        Ok(Item {
             member,
-            weight: Element(1),
-            after: found.after,
-        });
+            weight: Element(weight.value),
+            after: weight.after,
+        })
     }
-    let weight = read_number(line, BytePlace(found.after.0 + 1), 1, limits.size)?;
-    Ok(Item {
-        member,
-        weight: Element(weight.value),
-        after: weight.after,
-    })
-}
 
-// Reads the items from a place on to the line's end: one at least, each of another member.
-pub(crate) fn read_items(
-    line: &[u8],
-    start: BytePlace,
-    limits: Limits,
-) -> Result<Weights, ItemFault>
-    requires { limits.members ≤ 64 }
-    ensures { result ≡ read_items_lem limits no_weights line.now start.0 }
-{
-    let mut weights = Weights([Element(0); 64]);
-    let mut at = start;
-    loop {
-        let item = read_item(line, at, limits, &weights)?;
-        weights.0[item.member.0] = item.weight;
-        at = item.after;
-        if at.0 == line.len() {
-            return Ok(weights);
+    // Reads the items from a place on to the line's end: one at least, each of another member.
+    pub(crate) fn read_items(&self, start: BytePlace) -> Result<Weights, ItemFault>
+        ensures { result ≡ read_items_lem self.now.limits no_weights self.now.line.now start.0 }
+    {
+        let mut weights = Weights([Element(0); 64]);
+        let mut at = start;
+        loop {
+            let item = self.read_item(at, &weights)?;
+            weights.0[item.member.0] = item.weight;
+            at = item.after;
+            if at.0 == self.line.len() {
+                return Ok(weights);
+            }
         }
     }
 }

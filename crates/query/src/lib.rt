@@ -6,6 +6,7 @@ mod items;
 mod laws;
 mod lines;
 mod numbers;
+mod reader;
 mod refusals;
 
 pub use faults::{DigitFault, ItemFault, LineFault, NumberFault};

@@ -1,11 +1,11 @@
 // A line of query text, read as a request.
-ghost use Rattle.std.specs.Prelude.{◌≡◌, ◌≤◌};
+ghost use Rattle.std.specs.Prelude.{◌≡◌};
 ghost use Rattle.query.specs.Lines.{read_witness_lem, limits, reading};
 ghost use Rattle.query.specs.Laws.{Exact, Parts, Within};
 
 use crate::faults::LineFault;
-use crate::items::{Limits, Weights, read_items, read_spaced};
-use crate::numbers::char_at;
+use crate::items::{Limits, Weights};
+use crate::reader::Reader;
 use field::{Element, Field};
 use refusal::{BytePlace, Member};
 
@@ -23,35 +23,34 @@ pub enum Request {
     Remark,
 }
 
-// Reads the two items of a witness line, a member and an element.
-fn read_witness(line: &[u8], start: BytePlace, limits: Limits) -> Result<Request, LineFault>
-    ensures { result ≡ read_witness_lem limits line.now start.0 }
-{
-    let member = read_spaced(line, start, limits.members)?;
-    let element = read_spaced(line, member.after, limits.size)?;
-    if element.after.0 < line.len() {
-        return Err(LineFault::NotEnded(element.after));
+impl Reader<'_> {
+    // Reads the two items of a witness line, a member and an element.
+    fn read_witness(&self, start: BytePlace) -> Result<Request, LineFault>
+        ensures { result ≡ read_witness_lem self.now.limits self.now.line.now start.0 }
+    {
+        let member = self.read_spaced(start, self.limits.members)?;
+        let element = self.read_spaced(member.after, self.limits.size)?;
+        if element.after.0 < self.line.len() {
+            return Err(LineFault::NotEnded(element.after));
+        }
+        Ok(Request::Witness(Member(member.value as usize), Element(element.value)))
     }
-    Ok(Request::Witness(Member(member.value as usize), Element(element.value)))
-}
 
-// Reads a line whose numbers have these limits.
-fn read_within(line: &[u8], limits: Limits) -> Result<Request, LineFault>
-    requires { limits.members ≤ 64 }
-    ensures { result ≡ reading limits line.now }
-{
-    let Some(kind) = char_at(line, BytePlace(0)) else {
-        return Err(LineFault::NoKind);
-    };
-    if kind != '#' && line.len() > LONGEST {
-        return Err(LineFault::TooLong);
-    }
-    match kind {
-        'a' => Ok(Request::Ask(read_items(line, BytePlace(1), limits)?)),
-        't' => Ok(Request::Try(read_items(line, BytePlace(1), limits)?)),
-        'w' => read_witness(line, BytePlace(1), limits),
-        '#' => Ok(Request::Remark),
-        _ => Err(LineFault::NoKind),
+    // Reads the line.
+    fn read(&self) -> Result<Request, LineFault>
+        ensures { result ≡ reading self.now.limits self.now.line.now }
+    {
+        let Some(kind) = self.char_at(BytePlace(0)) else {
+            return Err(LineFault::NoKind);
+        };
+        match kind {
+            '#' => Ok(Request::Remark),
+            _ if self.line.len() > LONGEST => Err(LineFault::TooLong),
+            'a' => Ok(Request::Ask(self.read_items(BytePlace(1))?)),
+            't' => Ok(Request::Try(self.read_items(BytePlace(1))?)),
+            'w' => self.read_witness(BytePlace(1)),
+            _ => Err(LineFault::NoKind),
+        }
     }
 }
 
@@ -66,5 +65,5 @@ pub fn read_line<F: Field>(line: &[u8], n: usize) -> Result<Request, LineFault>
         members: n.min(64) as u32,
         size: F::size(),
     };
-    read_within(line, limits)
+    Reader { line, limits }.read()
 }

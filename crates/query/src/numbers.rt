@@ -1,8 +1,11 @@
 // The numbers of a line: one to five decimal digits, with no needless zero in front.
-ghost use Rattle.std.specs.Prelude.{◌≡◌, ◌+◌, ◌<◌, ◌&&◌, length, drop, ◌==◌, nat_lt};
+ghost use Rattle.std.specs.Prelude.{◌≡◌, ◌<◌, ◌&&◌, length, ◌==◌, nat_lt};
+ghost use Rattle.std.specs.List.{take_while};
+ghost use Rattle.std.specs.Char.{is_ascii_digit};
 ghost use Rattle.query.specs.Numbers.{byte_at, stands_at, read_digit_lem, digits, worth, read_number};
 
 use crate::faults::{DigitFault, NumberFault};
+use crate::reader::Reader;
 use refusal::BytePlace;
 
 // A number of a line: the place of its first digit, its value, and the place after its last digit.
@@ -13,45 +16,11 @@ pub(crate) struct Numeral {
     pub after: BytePlace,
 }
 
-// The character at a place, and none from the line's end on.
-pub(crate) fn char_at(line: &[u8], at: BytePlace) -> Option<char>
-    ensures { result ≡ byte_at line.now at.0 }
+// How many digits the text begins with.
+fn digit_count(text: &[u8]) -> usize
+    ensures { result ≡ length (take_while is_ascii_digit text.now) }
 {
-    if at.0 < line.len() {
-        Some(char::from(line[at.0]))
-    } else {
-        None
-    }
-}
-
-// Whether a character stands at a place.
-pub(crate) fn stands(line: &[u8], at: BytePlace, c: char) -> bool
-    ensures { result ≡ stands_at line.now at.0 c }
-{
-    match char_at(line, at) {
-        Some(found) => found == c,
-        None => false,
-    }
-}
-
-fn read_digit(line: &[u8], at: BytePlace) -> Result<u32, DigitFault>
-    ensures { result ≡ read_digit_lem line.now at.0 }
-{
-    match char_at(line, at) {
-        Some(c) if c.is_ascii_digit() => Ok(c as u32 - '0' as u32),
-        _ => Err(DigitFault(at)),
-    }
-}
-
-// The place where the digits from `start` on end.
-fn digits_end(line: &[u8], start: BytePlace) -> usize
-    ensures { result ≡ start.0 + length (digits (drop start.0 line.now)) }
-{
-    let mut end = start.0;
-    while read_digit(line, BytePlace(end)).is_ok() {
-        end += 1;
-    }
-    end
+    text.iter().take_while(|b| b.is_ascii_digit()).count()
 }
 
 // What at most five digits are worth.
@@ -74,31 +43,55 @@ fn leading_zero(first: u32, count: usize) -> bool
     first == 0 && count > 1
 }
 
-// Reads the number at a place, from `least` up and below `limit`.
-pub(crate) fn read_number(
-    line: &[u8],
-    at: BytePlace,
-    least: u32,
-    limit: u32,
-) -> Result<Numeral, NumberFault>
-    ensures { result ≡ read_number least limit line.now at.0 }
-{
-    let first = read_digit(line, at)?;
-    let start = at.0;
-    let end = digits_end(line, at);
-    if leading_zero(first, end - start) {
-        return Err(NumberFault::LeadingZero(at));
+impl Reader<'_> {
+    // The character at a place, and none from the line's end on.
+    pub(crate) fn char_at(&self, at: BytePlace) -> Option<char>
+        ensures { result ≡ byte_at self.now.line.now at.0 }
+    {
+        self.line.get(at.0).map(|b| char::from(*b))
     }
-    if end - start > 5 {
-        return Err(NumberFault::TooManyDigits(at));
+
+    // Whether a character stands at a place.
+    pub(crate) fn stands(&self, at: BytePlace, c: char) -> bool
+        ensures { result ≡ stands_at self.now.line.now at.0 c }
+    {
+        self.char_at(at) == Some(c)
     }
-    let value = digits_worth(&line[start..end]);
-    if value < least || value >= limit {
-        return Err(NumberFault::OutOfRange(at));
+
+    fn read_digit(&self, at: BytePlace) -> Result<u32, DigitFault>
+        ensures { result ≡ read_digit_lem self.now.line.now at.0 }
+    {
+        self.char_at(at)
+            .and_then(|c| c.to_digit(10))
+            .ok_or(DigitFault(at))
     }
-    Ok(Numeral {
-        start: at,
-        value,
-        after: BytePlace(end),
-    })
+
+    // Reads the number at a place, from `least` up and below `limit`.
+    pub(crate) fn read_number(
+        &self,
+        at: BytePlace,
+        least: u32,
+        limit: u32,
+    ) -> Result<Numeral, NumberFault>
+        ensures { result ≡ read_number least limit self.now.line.now at.0 }
+    {
+        let first = self.read_digit(at)?;
+        let rest = &self.line[at.0..];
+        let count = digit_count(rest);
+        if leading_zero(first, count) {
+            return Err(NumberFault::LeadingZero(at));
+        }
+        if count > 5 {
+            return Err(NumberFault::TooManyDigits(at));
+        }
+        let value = digits_worth(&rest[..count]);
+        if value < least || value >= limit {
+            return Err(NumberFault::OutOfRange(at));
+        }
+        Ok(Numeral {
+            start: at,
+            value,
+            after: BytePlace(at.0 + count),
+        })
+    }
 }

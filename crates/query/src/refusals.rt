@@ -5,48 +5,48 @@ ghost use Rattle.query.specs.Refusals.{digit_refusal, number_refusal, item_refus
 use crate::faults::{DigitFault, ItemFault, LineFault, NumberFault};
 use refusal::{BytePlace, Refusal};
 
-impl DigitFault {
-    pub fn refusal(&self) -> Refusal
-        ensures { result ≡ digit_refusal self.now }
-    {
-        Refusal::UnexpectedByte(self.0)
+impl From<DigitFault> for Refusal {
+    ghost from_gives = { λ f r. r ≡ digit_refusal f };
+
+    fn from(fault: DigitFault) -> Refusal {
+        Refusal::UnexpectedByte(fault.0)
     }
 }
 
-impl NumberFault {
-    pub fn refusal(&self) -> Refusal
-        ensures { result ≡ number_refusal self.now }
-    {
-        match self {
-            NumberFault::NoDigit(fault) => fault.refusal(),
+impl From<NumberFault> for Refusal {
+    ghost from_gives = { λ f r. r ≡ number_refusal f };
+
+    fn from(fault: NumberFault) -> Refusal {
+        match fault {
+            NumberFault::NoDigit(fault) => Refusal::from(fault),
             NumberFault::LeadingZero(place)
             | NumberFault::TooManyDigits(place)
-            | NumberFault::OutOfRange(place) => Refusal::BadNumber(*place),
+            | NumberFault::OutOfRange(place) => Refusal::BadNumber(place),
         }
     }
 }
 
-impl ItemFault {
-    pub fn refusal(&self) -> Refusal
-        ensures { result ≡ item_refusal self.now }
-    {
-        match self {
-            ItemFault::NoSpace(place) => Refusal::UnexpectedByte(*place),
-            ItemFault::Number(fault) => fault.refusal(),
-            ItemFault::Repeated(place) => Refusal::MemberRepeated(*place),
+impl From<ItemFault> for Refusal {
+    ghost from_gives = { λ f r. r ≡ item_refusal f };
+
+    fn from(fault: ItemFault) -> Refusal {
+        match fault {
+            ItemFault::NoSpace(place) => Refusal::UnexpectedByte(place),
+            ItemFault::Number(fault) => Refusal::from(fault),
+            ItemFault::Repeated(place) => Refusal::MemberRepeated(place),
         }
     }
 }
 
-impl LineFault {
-    pub fn refusal(&self) -> Refusal
-        ensures { result ≡ line_refusal self.now }
-    {
-        match self {
+impl From<LineFault> for Refusal {
+    ghost from_gives = { λ f r. r ≡ line_refusal f };
+
+    fn from(fault: LineFault) -> Refusal {
+        match fault {
             LineFault::TooLong => Refusal::LineTooLong(BytePlace(640)),
             LineFault::NoKind => Refusal::UnexpectedByte(BytePlace(0)),
-            LineFault::Item(fault) => fault.refusal(),
-            LineFault::NotEnded(place) => Refusal::UnexpectedByte(*place),
+            LineFault::Item(fault) => Refusal::from(fault),
+            LineFault::NotEnded(place) => Refusal::UnexpectedByte(place),
         }
     }
 }

@@ -1,6 +1,7 @@
 // How answers are shown.
 use field::Field;
 use query::{LineFault, Request, Weights, read_line};
+use refusal::Refusal;
 use std::io;
 
 // Each named member with its weight.
@@ -27,7 +28,7 @@ fn answer(rt: &HostRuntime, read: &Result<Request, LineFault>) -> io::Result<()>
         }
         Ok(Request::Remark) => println!(rt; "ok, remark"),
         Err(fault) => {
-            let refusal = fault.refusal();
+            let refusal = Refusal::from(*fault);
             let number = refusal.number();
             let place = refusal.detail();
             println!(rt; "{number} {place}")

@@ -14,6 +14,7 @@ use answer_log::write_row;
 use answer_text::{Answer, write_answer};
 use field::{Element, Field};
 use query::Weights;
+use refusal::Refusal;
 use request::{Outcome, RequestFault, carry_out};
 use server::Server;
 use session::Session;
@@ -53,7 +54,7 @@ fn print(number: usize, n: usize, came: &Result<Outcome, RequestFault>, out: &mu
         Ok(Outcome::Answered(_, figure)) => Answer::Figure(*figure),
         Ok(Outcome::Granted) => Answer::Granted,
         Ok(Outcome::Filled(table)) => Answer::Witness(&table[0..n]),
-        Err(fault) => Answer::Refused(fault.refusal()),
+        Err(fault) => Answer::Refused(Refusal::from(*fault)),
     };
     match write_answer(number, &answer, out) {
         Some(written) => written,

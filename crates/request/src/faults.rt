@@ -28,13 +28,13 @@ impl From<Refusal> for RequestFault {
     }
 }
 
-impl RequestFault {
-    pub fn refusal(&self) -> Refusal
-        ensures { result ≡ fault_refusal self.now }
-    {
-        match self {
-            RequestFault::Line(fault) => fault.refusal(),
-            RequestFault::Call(refusal) => *refusal,
+impl From<RequestFault> for Refusal {
+    ghost from_gives = { λ f r. r ≡ fault_refusal f };
+
+    fn from(fault: RequestFault) -> Refusal {
+        match fault {
+            RequestFault::Line(fault) => Refusal::from(fault),
+            RequestFault::Call(refusal) => refusal,
         }
     }
 }

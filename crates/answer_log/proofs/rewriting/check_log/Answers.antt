@@ -1,31 +1,47 @@
 -- Answers for `check_log`: row after row.
-use Rattle.std.proofs.Common.{Some, None, arith}
-use Rattle.field.specs.Sums.{weights_of}
+use Rattle.std.proofs.Common.{Some, None, length, ◌≤◌}
+use Rattle.std.proofs.lemmas.Result.{err_from_is_err_and}
 use Rattle.answer_log.specs.Logs.{bad_header, rows}
-use Rattle.answer_log.proofs.Logs.{row_passed, row-refused, rows_done}
+use Rattle.answer_log.proofs.Logs.{rows_done}
+use Rattle.answer_log.proofs.Steps.{whole_still, count-still, step_passed, step-refused}
 use Rattle.answer_log.proofs.rewriting.check_log.Goals as goal
 
-pub returns-in-Err : goal.returns-in-Err
-returns-in-Err g c = bad_header c.in-Err.e c.in-Err.ensures
+pub returns-in_err-read_header : goal.returns-in_err-read_header
+returns-in_err-read_header g c =
+    let p = err_from_is_err_and c.from_residual.result c.from_residual.ensures.1 in
+    rw (p.1, p.2) (bad_header _ c.in_err-read_header.ensures)
 
-pub returns-in-Err-read_row : goal.returns-in-Err-read_row
-returns-in-Err-read_row g c =
-    let e = c.in-Err-read_row.e in
-    rows (Some e) c.in_default.ensures
-    (c.loop-at.invariant.1 (Some e) (row-refused g.F.Field.model c.args.n c.loop-at.row c.args.bytes.now c.loop-at.at c.loop-at-test.true e c.in-Err-read_row.ensures))
+pub returns-in_err-entry : goal.returns-in_err-entry
+returns-in_err-entry g c =
+    let M = g.F.Field.model in
+    let bytes = c.args.bytes.now in
+    let inv = c.loop-entry.invariant in
+    let e = c.in_err-entry.field-0.0 in
+    let p = err_from_is_err_and c.from_residual-in_err-entry.result c.from_residual-in_err-entry.ensures.1 in
+    rw (p.1, p.2)
+    (rows (Some e) c.in_ok-read_header.ensures
+    (inv.4 (Some e) (step-refused M c.loop-entry.entry-iterator c.next.new.self _ c.in-Some.ensures.steps bytes c.args.n inv.2 inv.3 e c.in_err-entry.was)))
 
-pub loop-at-preserved : goal.loop-at-preserved
-loop-at-preserved g c =
-    let inv = c.loop-at.invariant in
-    let row = c.in-Ok.ensures in
-    let entry = c.in-Ok.entry in (
-      omega (arith, row.on, inv.0),
-      λ r rest.
-          inv.1 r
-          (row_passed g.F.Field.model c.args.n c.loop-at.row c.args.bytes.now c.loop-at.at (weights_of entry.weights) entry.figure.0 entry.next c.loop-at-test.true row r rest),
+pub loop-entry-preserved : goal.loop-entry-preserved
+loop-entry-preserved g c =
+    let M = g.F.Field.model in
+    let bytes = c.args.bytes.now in
+    let n = c.args.n in
+    let s = c.loop-entry.entry-iterator in
+    let t = c.next.new.self in
+    let inv = c.loop-entry.invariant in
+    let step = c.in-Some.ensures.steps in (
+      tt,
+      tt,
+      whole_still M s t _ step bytes n inv.2 inv.3,
+      count-still M s t _ step bytes n inv.2 inv.3,
+      λ r rest. inv.4 r (step_passed M s t _ step bytes n inv.2 inv.3 c.in_ok-entry.field-0 c.in_ok-entry.was r rest),
     )
 
 pub returns : goal.returns
 returns g c =
-    rows None c.in_default.ensures
-    (c.loop-at.invariant.1 None (rows_done g.F.Field.model c.args.n c.loop-at.row c.args.bytes.now c.loop-at.at c.loop-at-test.false))
+    let bytes = c.args.bytes.now in
+    let s = c.loop-entry.entry-iterator in
+    let inv = c.loop-entry.invariant in
+    let done : length bytes ≤ s.at = rw (← inv.2) c.in-None.ensures.steps in
+    rows None c.in_ok-read_header.ensures (inv.4 None (rows_done g.F.Field.model c.args.n s.row bytes s.at done))

@@ -1,31 +1,34 @@
 -- Answers for `rewrite`: which check failed, or the log.
 use Rattle.std.proofs.Common.{refl, arith}
+use Rattle.std.proofs.lemmas.Result.{err_from_is_err_and}
 use Rattle.answer_log.specs.Logs.{bad_log, log_full, accepted}
 use Rattle.answer_log.proofs.Logs.{header_of, rows_of, header_long, header_excluded, header-front, header-kept, log_put}
 use Rattle.answer_log.proofs.rewriting.rewrite.Goals as goal
 
-pub returns-in-Err : goal.returns-in-Err
-returns-in-Err g c = (bad_log c.in-Err.e c.in-Err.ensures, refl)
+pub returns-in_err-check_log : goal.returns-in_err-check_log
+returns-in_err-check_log g c =
+    let p = err_from_is_err_and c.from_residual.result c.from_residual.ensures.1 in
+    rw (p.1, p.2) (bad_log _ c.in_err-check_log.ensures, refl)
 
 pub returns-then-out-bytes : goal.returns-then-out-bytes
-returns-then-out-bytes g c = (log_full c.in_default.ensures (omega arith), refl)
+returns-then-out-bytes g c = (log_full c.in_ok-check_log.ensures (omega arith), refl)
 
-pub returns-in-Err-write_header : goal.returns-in-Err-write_header
-returns-in-Err-write_header g c =
+pub returns-in_err-write_header : goal.returns-in_err-write_header
+returns-in_err-write_header g c =
     let M = g.F.Field.model in
-    let header = header_of M c.args.n c.args.bytes.now c.in_default.ensures in
+    let header = header_of M c.args.n c.args.bytes.now c.in_ok-check_log.ensures in
     let long = header_long M c.args.n c.args.bytes.now header in
-    absurd (header_excluded M c.args.n c.args.bytes.now _ _ header (omega arith) c.in-Err-write_header.ensures.0)
+    absurd (header_excluded M c.args.n c.args.bytes.now _ _ header (omega arith) c.in_err-write_header.ensures.0)
 
 pub rewrite_rows-requires : goal.rewrite_rows-requires
 rewrite_rows-requires g c =
     let M = g.F.Field.model in
     let n = c.args.n in
     let bytes = c.args.bytes.now in
-    let header = header_of M n bytes c.in_default.ensures in
-    let put = c.in_default-write_header.ensures.1 in
+    let header = header_of M n bytes c.in_ok-check_log.ensures in
+    let put = c.in_ok-write_header.ensures.1 in
     record {
-      rows = rows_of M n bytes c.in_default.ensures;
+      rows = rows_of M n bytes c.in_ok-check_log.ensures;
       header = header-front M n bytes header c.args.out.now c.write_header.new.out _ put c.if-out-bytes.false;
       room = omega (arith, header-kept M n bytes header c.args.out.now c.write_header.new.out _ put c.if-out-bytes.false);
     }
@@ -35,8 +38,8 @@ returns g c =
     let M = g.F.Field.model in
     let n = c.args.n in
     let bytes = c.args.bytes.now in
-    let header = header_of M n bytes c.in_default.ensures in
-    let put = c.in_default-write_header.ensures.1 in (
-      accepted c.in_default.ensures c.if-out-bytes.false,
+    let header = header_of M n bytes c.in_ok-check_log.ensures in
+    let put = c.in_ok-write_header.ensures.1 in (
+      accepted c.in_ok-check_log.ensures c.if-out-bytes.false,
       log_put M n bytes header c.args.out.now c.write_header.new.out _ put c.if-out-bytes.false c.rewrite_rows.new.out c.rewrite_rows.ensures,
     )

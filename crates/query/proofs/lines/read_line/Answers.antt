@@ -12,7 +12,7 @@ same m n s t e f = ap (λ k. record { members = k; size = s }) e ∙ ap (λ k. r
 pub returns : goal.returns
 returns g c =
     let e =
-    c.read_within.ensures ∙ ap (λ k. reading k c.args.line.now) (same _ _ _ _ c.min.ensures c.size.ensures) in
+    c.read.ensures ∙ ap (λ k. reading k c.args.line.now) (same _ _ _ _ c.min.ensures c.size.ensures) in
     record {
       is = e;
       exact = exact g.F.Field.model g.met.F.Field.laws c.args.n c.args.line.now _ e;
