@@ -1,5 +1,5 @@
 -- What the record answers about a row of a log, in terms of the rows before it. Assumes nothing.
-use Rattle.std.proofs.Common.{◌≡◌, ℕ, ◌<◌, true, ◌≢◌, List, [], ◌∷◌, is_ok, Some, None, Ok, Err, Result, sym, refl, ◌∙◌, arith, MatchResult}
+use Rattle.std.proofs.Common.{IsOk, subst, ◌≡◌, ℕ, ◌<◌, true, ◌≢◌, List, [], ◌∷◌, is_ok, Some, None, Ok, Err, Result, sym, refl, ◌∙◌, arith, MatchResult}
 use Rattle.refusal.specs.declared.Refusal.{Refusal}
 use Rattle.refusal.specs.declared.Refusal.TheVariants.{Discloses, OtherFigure}
 use Rattle.refusal.specs.declared.Site.TheVariants.{OfRow}
@@ -119,8 +119,12 @@ nothing_yet M L n = record {
 }
 
 -- a row that passed its checks is judged
-pub never_refused :
+pub judged_ok :
     {A : Type 0} (P : A → Type 0) (M : FieldModel) (n : ℕ) (ws : List Element) (r : Result A Refusal) → MatchResult r P (λ e. RowCheck M n ws (Some e))
-    → RowCheck M n ws None → ((x : A) → r ≡ Ok x → ⊥) → ⊥
-never_refused P M n ws (Ok x) answer passed not = not x refl
-never_refused P M n ws (Err e) answer passed not = row-check-apart M n ws e passed answer
+    → RowCheck M n ws None → IsOk r
+judged_ok P M n ws (Ok x) answer passed = refl
+judged_ok P M n ws (Err e) answer passed = absurd (row-check-apart M n ws e passed answer)
+
+-- what holds of an answer holds of what is in it
+pub of_answer : {A E : Type 0} (P : A → Type 0) (Q : E → Type 0) (r : Result A E) (x : A) → r ≡ Ok x → MatchResult r P Q → P x
+of_answer P Q r x e answer = subst (λ s. MatchResult s P Q) e answer

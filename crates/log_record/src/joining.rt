@@ -23,21 +23,13 @@ pub(crate) fn join_row<F: Field>(
     ensures kept { OnErr result (rec_of held.new ≡ rec_of held.old) }
     ensures joins { (before : List Figured) → Recorded F.model held.old.count before (rec_of held.old) → MatchResult result (λ _. JoinCheck F.model held.old.count row before (given_row weights.now figure.0) None × Recorded F.model held.old.count (given_row weights.now figure.0 ∷ before) (rec_of held.new)) (λ e. JoinCheck F.model held.old.count row before (given_row weights.now figure.0) (Some e)) }
 {
-    let Ok(judgement) = held.judge(weights) else {
-        unreachable()
-    };
-    match judgement {
-        Judgement::Pinning(_) => return Err(Refusal::Discloses(Site::OfRow(row))),
-        Judgement::Fixed(known) => {
-            if known.0 != figure.0 {
-                return Err(Refusal::OtherFigure(row));
-            }
-        }
+    match held.judge(weights).unwrap() {
+        Judgement::Pinning(_) => Err(Refusal::Discloses(Site::OfRow(row))),
+        Judgement::Fixed(known) if known.0 != figure.0 => Err(Refusal::OtherFigure(row)),
+        Judgement::Fixed(_) => Ok(()),
         Judgement::Free => {
-            if held.admit(weights, figure).is_err() {
-                unreachable()
-            }
+            held.admit(weights, figure).unwrap();
+            Ok(())
         }
     }
-    Ok(())
 }

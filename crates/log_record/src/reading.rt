@@ -8,7 +8,7 @@ ghost use Rattle.record.specs.Records.{rec_of};
 ghost use Rattle.log_record.specs.Joins.{RowsJoin, LogRecord, Recorded};
 
 use crate::joining::join_row;
-use answer_log::{read_header, read_row};
+use answer_log::{LogRows, read_header};
 use field::Field;
 use record::{Record, Room};
 use refusal::{LogRow, Refusal};
@@ -27,14 +27,9 @@ fn read_rows<F: Field>(held: &mut Record<F>, log: &[u8]) -> Result<(), Refusal>
     ensures joins { MatchResult result (λ _. (given : List Figured) × RowsJoin F.model held.old.count 0 [] (drop 2 log.now) None given × Recorded F.model held.old.count given (rec_of held.new)) (λ e. RowsJoin F.model held.old.count 0 [] (drop 2 log.now) (Some e) []) }
 {
     let n = held.count();
-    let mut at = 2;
-    let mut row = 0;
-    while at < log.len() {
-        let entry = read_row::<F>(log, at, n, LogRow(row))?;
-        let weights = entry.weights;
-        join_row(held, &weights[..n], entry.figure, LogRow(row))?;
-        at = entry.next;
-        row += 1;
+    for (row, entry) in LogRows::<F>::new(log, n).enumerate() {
+        let entry = entry?;
+        join_row(held, &entry.weights[..n], entry.figure, LogRow(row))?;
     }
     Ok(())
 }

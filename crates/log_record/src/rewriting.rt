@@ -19,8 +19,7 @@ pub fn rewrite_accepted<F: Field>(
 ) -> Result<usize, Refusal>
     ensures { MatchResult result (λ k. Rewrites F.model n log.now (length out.old) None × Put log.now out.old out.new k) (λ e. Rewrites F.model n log.now (length out.old) (Some e) × (out.new ≡ out.old)) }
 {
-    let ReadLog { record: _, refusal } = read_record::<F>(room, n, log);
-    match refusal {
+    match read_record::<F>(room, n, log).refusal {
         Some(e) => Err(e),
         None => rewrite::<F>(log, n, out),
     }

@@ -1,38 +1,62 @@
 -- Answers for `read_rows`: row after row.
-use Rattle.std.proofs.Common.{◌≡◌, ℕ, ◌<◌, ◌≤◌, List, [], ◌∷◌, length, get_or, take, drop, Some, None, sym, ◌∙◌, subst, arith, rules}
+use Rattle.std.proofs.Common.{◌≡◌, ℕ, ◌+◌, ◌<◌, ◌≤◌, List, [], ◌∷◌, length, get_or, take, drop, Some, None, sym, ap, ◌∙◌, subst, arith, rules}
+use Rattle.std.specs.Iterator.Adapters.{enumerate_source, enumerate_count}
 use Rattle.std.proofs.lemmas.Result.{err_from_is_err_and}
 use Rattle.record.specs.Checks.{RowCheck}
 use Rattle.record.specs.Judged.{given_row}
 use Rattle.record.specs.Records.{rec_of}
 use Rattle.echelon.specs.Rows.{Figured}
 use Rattle.answer_log.proofs.Logs.{row_count, cut_reads}
+use Rattle.answer_log.proofs.Steps.{whole_still, count-still, left_within, row_read, next-place, row_bad}
 use Rattle.log_record.specs.Joins.{JoinCheck, RowsJoin, Recorded}
 use Rattle.log_record.proofs.Fine.{cut_checked}
 use Rattle.log_record.proofs.Forwards.{rows_done, row-refused, row-kept_out, row-joined}
 use Rattle.log_record.proofs.Verdicts.{nothing_yet}
 use Rattle.log_record.proofs.reading.read_rows.Goals as goal
 
-pub loop-at-init : goal.loop-at-init
-loop-at-init g c =
+pub loop-row-init : goal.loop-row-init
+loop-row-init g c =
     let M = g.F.Field.model in
-    let n = c.count-n.result in (
+    let n = c.count-n.result in
+    let bytes = c.args.log.now in
+    let gives = c.into_iter-row-iterator.ensures.into_iter_gives in
+    let is = ap enumerate_source gives ∙ c.enumerate-row-items.ensures.source in
+    let count = ap enumerate_count gives ∙ c.enumerate-row-items.ensures.count in
+    let whole = ap (λ r. r.bytes.now) is ∙ c.new.ensures.bytes in
+    let at = ap (λ r. r.at) is ∙ c.new.ensures.first.0 in
+    let row = ap (λ r. r.row) is ∙ c.new.ensures.first.1 in (
+      search rules,
+      tt,
+      whole,
+      ap (λ r. r.n) is ∙ c.new.ensures.count,
+      count ∙ sym row,
       sym c.count-n.ensures,
-      omega arith,
-      ([], subst (Recorded M n []) (sym c.requires.empty) (nothing_yet M g.met.F.Field.laws n), λ r given all. all),
+      (
+        [],
+        subst (Recorded M n []) (sym c.requires.empty) (nothing_yet M g.met.F.Field.laws n),
+        λ r given all.
+            subst (λ (i : ℕ). RowsJoin M n 0 [] (drop i bytes) r given) at
+            (subst (λ (k : ℕ). RowsJoin M n k [] (drop (enumerate_source c.into_iter-row-iterator.result).at bytes) r given) row all),
+      ),
     )
 
 pub returns-in_err-entry : goal.returns-in_err-entry
 returns-in_err-entry g c =
     let M = g.F.Field.model in
     let n = c.count-n.result in
-    let inv = c.loop-at.invariant in
-    let e = c.in_err-entry.field-0.0 in
+    let inv = c.loop-row.invariant in
     let bytes = c.args.log.now in
-    let all = inv.2.2 (Some e) [] (row-refused M n c.loop-at.row inv.2.0 bytes c.loop-at.at c.loop-at-test.true e c.in_err-entry.ensures) in
+    let s = enumerate_source c.loop-row.row-iterator in
+    let t = enumerate_source c.next.new.self in
+    let step = c.in-Some.ensures.steps.0 in
+    let e = c.in_err-entry.field-0.0 in
+    let left = left_within M s t _ step bytes n inv.2 inv.3 in
+    let bad = row_bad M s t _ step bytes n inv.2 inv.3 e c.in_err-entry.was in
+    let all = inv.6.2 (Some e) [] (row-refused M n s.row inv.6.0 bytes s.at left e bad) in
     let p = err_from_is_err_and c.from_residual.result c.from_residual.ensures.1 in
     rw (p.1, p.2)
     (record {
-      count = inv.0 ∙ c.count-n.ensures;
+      count = inv.5 ∙ c.count-n.ensures;
       joins = subst (λ (m : ℕ). RowsJoin M m 0 [] (drop 2 bytes) (Some e) []) c.count-n.ensures all;
     })
 
@@ -40,78 +64,106 @@ pub join_row-requires : goal.join_row-requires
 join_row-requires g c =
     let M = g.F.Field.model in
     let n = c.count-n.result in
-    let inv = c.loop-at.invariant in
+    let inv = c.loop-row.invariant in
     let bytes = c.args.log.now in
-    let ws = c.in_ok-entry.entry.weights in
-    let row = c.in_ok-entry.ensures in
+    let s = enumerate_source c.loop-row.row-iterator in
+    let t = enumerate_source c.next.new.self in
+    let step = c.in-Some.ensures.steps.0 in
+    let entry = c.in_ok-entry.entry in
+    let ws = entry.weights in
+    let f = entry.figure.0 in
+    let row = row_read M s t _ step bytes n inv.2 inv.3 entry c.in_ok-entry.was in
     let whole : length ws ≡ 64 = search rules in
     let long : n ≤ length ws = omega (arith, row_count M n _ _ row.reads.check) in
     let fit : (i : ℕ) → get_or bytes i 0 < 256 = λ i. (c.type_inv.log i).fits in
-    let (checked, figure) = cut_checked M g.met.F.Field.laws n _ bytes fit c.loop-at.at ws c.in_ok-entry.entry.figure.0 c.in_ok-entry.entry.next row long in
-    record { checked = subst (λ (m : ℕ). RowCheck M m (take n ws) None) (sym inv.0) checked; figure = figure }
+    let (checked, figure) = cut_checked M g.met.F.Field.laws n _ bytes fit s.at ws f entry.next row long in
+    record { checked = subst (λ (m : ℕ). RowCheck M m (take n ws) None) (sym inv.5) checked; figure = figure }
 
 pub returns-in_err-join_row : goal.returns-in_err-join_row
 returns-in_err-join_row g c =
     let M = g.F.Field.model in
     let n = c.count-n.result in
-    let inv = c.loop-at.invariant in
-    let e = c.in_err-join_row.field-0.0 in
+    let inv = c.loop-row.invariant in
     let bytes = c.args.log.now in
-    let at = c.loop-at.at in
-    let ws = c.in_ok-entry.entry.weights in
-    let f = c.in_ok-entry.entry.figure.0 in
-    let next = c.in_ok-entry.entry.next in
-    let row = c.in_ok-entry.ensures in
+    let s = enumerate_source c.loop-row.row-iterator in
+    let t = enumerate_source c.next.new.self in
+    let step = c.in-Some.ensures.steps.0 in
+    let entry = c.in_ok-entry.entry in
+    let ws = entry.weights in
+    let f = entry.figure.0 in
+    let row = row_read M s t _ step bytes n inv.2 inv.3 entry c.in_ok-entry.was in
     let whole : length ws ≡ 64 = search rules in
     let long : n ≤ length ws = omega (arith, row_count M n _ _ row.reads.check) in
     let fit : (i : ℕ) → get_or bytes i 0 < 256 = λ i. (c.type_inv.log i).fits in
-    let reads = cut_reads M g.met.F.Field.laws n _ bytes fit at ws f next row long in
-    let k = c.loop-at.row in
+    let reads = cut_reads M g.met.F.Field.laws n _ bytes fit s.at ws f entry.next row long in
+    let left = left_within M s t _ step bytes n inv.2 inv.3 in
+    let number : c.in-Some.row ≡ s.row = c.in-Some.ensures.steps.1 ∙ inv.4 in
+    let e = c.in_err-join_row.field-0.0 in
     let bad =
-    subst (λ (m : ℕ). (before : List Figured) → Recorded M m before (rec_of c.loop-at.held) → JoinCheck M m (record { 0 = k }) before (given_row (take n ws) f) (Some e))
-    inv.0 c.in_err-join_row.ensures.joins in
-    let all = inv.2.2 (Some e) [] (row-kept_out M n k inv.2.0 bytes at c.loop-at-test.true _ f next reads e (bad inv.2.0 inv.2.1)) in
+    subst (λ (k : ℕ). (before : List Figured) → Recorded M n before (rec_of c.loop-row.held) → JoinCheck M n (record { 0 = k }) before (given_row (take n ws) f) (Some e)) number
+    (subst (λ (m : ℕ). (before : List Figured) → Recorded M m before (rec_of c.loop-row.held) → JoinCheck M m (record { 0 = c.in-Some.row }) before (given_row (take n ws) f) (Some e))
+    inv.5 c.in_err-join_row.ensures.joins) in
+    let all = inv.6.2 (Some e) [] (row-kept_out M n s.row inv.6.0 bytes s.at left _ f entry.next reads e (bad inv.6.0 inv.6.1)) in
     let p = err_from_is_err_and c.from_residual-in_err-join_row.result c.from_residual-in_err-join_row.ensures.1 in
     rw (p.1, p.2)
     (record {
-      count = c.join_row.ensures.count ∙ inv.0 ∙ c.count-n.ensures;
+      count = c.join_row.ensures.count ∙ inv.5 ∙ c.count-n.ensures;
       joins = subst (λ (m : ℕ). RowsJoin M m 0 [] (drop 2 bytes) (Some e) []) c.count-n.ensures all;
     })
 
-pub loop-at-preserved : goal.loop-at-preserved
-loop-at-preserved g c =
+pub loop-row-preserved : goal.loop-row-preserved
+loop-row-preserved g c =
     let M = g.F.Field.model in
     let n = c.count-n.result in
-    let inv = c.loop-at.invariant in
+    let inv = c.loop-row.invariant in
     let bytes = c.args.log.now in
-    let at = c.loop-at.at in
-    let ws = c.in_ok-entry.entry.weights in
-    let f = c.in_ok-entry.entry.figure.0 in
-    let next = c.in_ok-entry.entry.next in
-    let row = c.in_ok-entry.ensures in
+    let s = enumerate_source c.loop-row.row-iterator in
+    let t = enumerate_source c.next.new.self in
+    let step = c.in-Some.ensures.steps.0 in
+    let entry = c.in_ok-entry.entry in
+    let ws = entry.weights in
+    let f = entry.figure.0 in
+    let row = row_read M s t _ step bytes n inv.2 inv.3 entry c.in_ok-entry.was in
     let whole : length ws ≡ 64 = search rules in
     let long : n ≤ length ws = omega (arith, row_count M n _ _ row.reads.check) in
     let fit : (i : ℕ) → get_or bytes i 0 < 256 = λ i. (c.type_inv.log i).fits in
-    let reads = cut_reads M g.met.F.Field.laws n _ bytes fit at ws f next row long in
-    let k = c.loop-at.row in
+    let reads = cut_reads M g.met.F.Field.laws n _ bytes fit s.at ws f entry.next row long in
+    let left = left_within M s t _ step bytes n inv.2 inv.3 in
+    let number : c.in-Some.row ≡ s.row = c.in-Some.ensures.steps.1 ∙ inv.4 in
     let G = given_row (take n ws) f in
     let joined =
-    subst (λ (m : ℕ). (before : List Figured) → Recorded M m before (rec_of c.loop-at.held) → JoinCheck M m (record { 0 = k }) before G None × Recorded M m (G ∷ before) (rec_of c.join_row.new.held))
-    inv.0 c.in_ok-join_row.ensures.joins inv.2.0 inv.2.1 in (
-      c.join_row.ensures.count ∙ inv.0,
-      omega (arith, row.on, inv.1),
-      (G ∷ inv.2.0, joined.1, λ r given rest. inv.2.2 r given (row-joined M n k inv.2.0 bytes at c.loop-at-test.true _ f next reads row.on joined.0 r given rest)),
+    subst (λ (k : ℕ). (before : List Figured) → Recorded M n before (rec_of c.loop-row.held) → JoinCheck M n (record { 0 = k }) before G None × Recorded M n (G ∷ before) (rec_of c.join_row.new.held)) number
+    (subst (λ (m : ℕ). (before : List Figured) → Recorded M m before (rec_of c.loop-row.held) → JoinCheck M m (record { 0 = c.in-Some.row }) before G None × Recorded M m (G ∷ before) (rec_of c.join_row.new.held))
+    inv.5 c.in_ok-join_row.ensures.joins) inv.6.0 inv.6.1 in
+    let goes = c.in-Some.ensures.goes in (
+      goes.keeps,
+      (goes.on inv.1).1,
+      whole_still M s t _ step bytes n inv.2 inv.3,
+      count-still M s t _ step bytes n inv.2 inv.3,
+      c.in-Some.ensures.steps.2 ∙ ap (λ k. k + 1) inv.4 ∙ sym step.row,
+      c.join_row.ensures.count ∙ inv.5,
+      (
+        G ∷ inv.6.0,
+        joined.1,
+        λ r given rest.
+            inv.6.2 r given
+            (row-joined M n s.row inv.6.0 bytes s.at left _ f entry.next reads row.on joined.0 r given
+            (subst (λ (k : ℕ). RowsJoin M n k (G ∷ inv.6.0) (drop entry.next bytes) r given) step.row
+            (subst (λ (i : ℕ). RowsJoin M n t.row (G ∷ inv.6.0) (drop i bytes) r given) (next-place M s t _ step bytes n inv.2 inv.3 entry c.in_ok-entry.was) rest))),
+      ),
     )
 
 pub returns : goal.returns
 returns g c =
     let M = g.F.Field.model in
     let n = c.count-n.result in
-    let inv = c.loop-at.invariant in
+    let inv = c.loop-row.invariant in
     let bytes = c.args.log.now in
-    let before = inv.2.0 in
-    let all = inv.2.2 None before (rows_done M n c.loop-at.row before bytes c.loop-at.at c.loop-at-test.false) in
+    let s = enumerate_source c.loop-row.row-iterator in
+    let before = inv.6.0 in
+    let done : length bytes ≤ s.at = rw (← inv.2) c.in-None.ensures.steps.0 in
+    let all = inv.6.2 None before (rows_done M n s.row before bytes s.at done) in
     record {
-      count = inv.0 ∙ c.count-n.ensures;
-      joins = subst (λ (m : ℕ). (given : List Figured) × RowsJoin M m 0 [] (drop 2 bytes) None given × Recorded M m given (rec_of c.loop-at.held)) c.count-n.ensures (before, all, inv.2.1);
+      count = inv.5 ∙ c.count-n.ensures;
+      joins = subst (λ (m : ℕ). (given : List Figured) × RowsJoin M m 0 [] (drop 2 bytes) None given × Recorded M m given (rec_of c.loop-row.held)) c.count-n.ensures (before, all, inv.6.1);
     }
