@@ -20,10 +20,7 @@ pub(crate) fn put_number(value: usize, out: &mut [u8]) -> usize
     requires { length (decimal value) ≤ length out.old }
     ensures { Put (decimal value) out.old out.new result }
 {
-    match put_decimal(value, out) {
-        Some(count) => count,
-        None => unreachable(),
-    }
+    put_decimal(value, out).unwrap()
 }
 
 // Writes a space and a number.
@@ -39,15 +36,9 @@ pub(crate) fn put_spaced(value: usize, out: &mut [u8]) -> usize
 pub(crate) fn room_after_elements(elements: &[Element], room: usize) -> Option<usize>
     ensures { MatchOption result (room < length (spaced (codes elements.now))) (λ left. left + length (spaced (codes elements.now)) ≡ room) }
 {
-    let mut left = room;
-    for element in elements {
-        let length = spaced_length(element.0 as usize);
-        if left < length {
-            return None;
-        }
-        left -= length;
-    }
-    Some(left)
+    elements.iter().try_fold(room, |left, element| {
+        left.checked_sub(spaced_length(element.0 as usize))
+    })
 }
 
 // Writes the elements, each after a space.
