@@ -2,9 +2,11 @@
 ghost use Rattle.record.specs.Records.{Sound};
 
 use crate::show;
+use crate::show::{Admitted, Judged};
 use field::{Element, Field};
 use record::{Record, Room};
 use refusal::Member;
+use shown::{Answered, Refused};
 use std::io;
 
 #[derive(Clone, Copy)]
@@ -33,7 +35,7 @@ fn witness<F: Field>(
     match rec.witness(member, element, out) {
         Ok(()) => show::table(rt, case, out),
         Err(refusal) => {
-            show::refused(rt, case, refusal)?;
+            println!(rt; "{case}: {}", Refused(refusal))?;
             show::table(rt, "its buffer", out)
         }
     }
@@ -45,8 +47,13 @@ fn one<F: Field>(rt: &HostRuntime, case: &str, rec: &mut Record<F>, ask: Ask) ->
 {
     match ask {
         Ask::Rows => show::rows(rt, case, rec),
-        Ask::Judge(row) => show::judged(rt, case, rec.judge(row)),
-        Ask::Admit(row, figure) => show::admitted(rt, case, rec.admit(row, figure)),
+        Ask::Judge(row) => { println!(rt; "{case}: {}", Answered(rec.judge(row).map(Judged))) }
+        Ask::Admit(row, figure) => {
+            println!(rt;
+                "{case}: {}",
+                Answered(rec.admit(row, figure).map(Admitted))
+            )
+        }
         Ask::Witness(member, element, length) => witness(rt, case, rec, member, element, length),
     }
 }
