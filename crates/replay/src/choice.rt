@@ -13,10 +13,7 @@ use ticks::Ticks;
 fn kind_byte(table: &[u8]) -> u8
     ensures { result ≡ slice_index table.now 0 }
 {
-    match table.first() {
-        Some(kind) => *kind,
-        None => 0,
-    }
+    table.first().copied().unwrap_or(0)
 }
 
 // Does the job in the field that the kind byte chooses. Any kind but that of ticks, and none, is taken as amounts.

@@ -9,6 +9,7 @@ use record::Room;
 use replay_text::replay;
 use server::{Array, Server};
 use session::Session;
+use shown::Refused;
 use std::io;
 
 // A text with its name, and the bytes of both buffers.
@@ -18,6 +19,17 @@ pub(crate) struct Case<'a> {
     pub text: &'a [u8],
     pub answers: usize,
     pub log: usize,
+}
+
+impl<'a> Case<'a> {
+    pub(crate) const fn new(name: &'a str, text: &'a [u8], answers: usize, log: usize) -> Case<'a> {
+        Case {
+            name,
+            text,
+            answers,
+            log,
+        }
+    }
 }
 
 fn one<S: Server>(rt: &HostRuntime, session: &mut Session<S>, case: Case) -> io::Result<()>
@@ -36,30 +48,21 @@ fn one<S: Server>(rt: &HostRuntime, session: &mut Session<S>, case: Case) -> io:
     show::replayed(rt, case.name, &done, answers.as_slice(), log.as_slice())
 }
 
-// One text over a new session.
-pub(crate) fn fresh<F: Field>(rt: &HostRuntime, values: &[Element], case: Case) -> io::Result<()> {
-    let server = match Array::<F>::new(values) {
-        Ok(server) => server,
-        Err(refusal) => return show::refused(rt, case.name, refusal),
-    };
-    let room = Room::new(rt.alloc())?;
-    let mut session = Session::new(server, room);
-    one(rt, &mut session, case)
+fn texts<S: Server>(rt: &HostRuntime, session: &mut Session<S>, cases: &[Case]) -> io::Result<()>
+    requires { Sound S.Over.Field.model (length (S.Server.table session.old.server)) session.old }
+{
+    for case in cases {
+        one(rt, session, *case)?;
+    }
+    Ok(())
 }
 
-// One text over a new session, and then another over the same.
-pub(crate) fn two<F: Field>(
-    rt: &HostRuntime,
-    values: &[Element],
-    first: Case,
-    second: Case,
-) -> io::Result<()> {
+// Texts over one new session, one after another.
+pub(crate) fn over<F: Field>(rt: &HostRuntime, values: &[Element], cases: &[Case]) -> io::Result<()> {
     let server = match Array::<F>::new(values) {
         Ok(server) => server,
-        Err(refusal) => return show::refused(rt, first.name, refusal),
+        Err(refusal) => return println!(rt; "{}", Refused(refusal)),
     };
-    let room = Room::new(rt.alloc())?;
-    let mut session = Session::new(server, room);
-    one(rt, &mut session, first)?;
-    one(rt, &mut session, second)
+    let mut session = Session::new(server, Room::new(rt.alloc())?);
+    texts(rt, &mut session, cases)
 }

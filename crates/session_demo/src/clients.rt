@@ -16,10 +16,8 @@ pub(crate) fn ask_once<S: Server>(
     ensures sound { Sound S.Over.Field.model (length (S.Server.table session.old.server)) session.new }
     ensures server { session.new.server ≡ session.old.server }
 {
-    match session.submit(weights) {
-        Ok(mut permit) => session.answer(&mut permit),
-        Err(e) => Err(e),
-    }
+    let mut permit = session.submit(weights)?;
+    session.answer(&mut permit)
 }
 
 // Submits a row, and withdraws it where it is granted: whether it would be.
@@ -32,8 +30,6 @@ pub(crate) fn try_once<S: Server>(
     ensures server { session.new.server ≡ session.old.server }
     ensures kept { session.new.record ≡ session.old.record }
 {
-    match session.submit(weights) {
-        Ok(mut permit) => session.withdraw(&mut permit),
-        Err(e) => Err(e),
-    }
+    let mut permit = session.submit(weights)?;
+    session.withdraw(&mut permit)
 }

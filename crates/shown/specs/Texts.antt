@@ -1,7 +1,7 @@
 -- How programs show refusals and rows: bytes, with numbers in decimal.
 --   refused_text e      a refusal: its number, and what comes with it
 --   answered_text t r   what t shows of what was given, or the refusal in its place
---   listed es           elements, with a comma and a space between them
+--   listed between es   elements, with a text between them
 --   row_text es v       a row with its figure
 -- Assumes nothing.
 use Rattle.std.specs.Prelude.{ℕ, List, [], ◌∷◌, ◌++◌, decimal, codes, Option, Some, Result, Ok, Err}
@@ -17,12 +17,9 @@ abbrev pub answered_text : {T : Type 0} → (T → Option (List ℕ)) → Result
 answered_text t (Ok x) = t x
 answered_text t (Err e) = Some (refused_text e)
 
-abbrev pub after_comma : Element → List ℕ
-after_comma e = 44 ∷ 32 ∷ decimal e.0
-
-abbrev pub listed : List Element → List ℕ
-listed [] = []
-listed (e ∷ es) = decimal e.0 ++ flat_map after_comma es
+abbrev pub listed : List ℕ → List Element → List ℕ
+listed between [] = []
+listed between (e ∷ es) = decimal e.0 ++ flat_map (λ v. between ++ decimal v.0) es
 
 abbrev pub row_text : List Element → Element → List ℕ
-row_text es v = codes "(" ++ listed es ++ codes " : " ++ decimal v.0 ++ codes ")"
+row_text es v = codes "(" ++ listed (codes ", ") es ++ codes " : " ++ decimal v.0 ++ codes ")"

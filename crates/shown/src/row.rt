@@ -5,20 +5,23 @@ ghost use Rattle.shown.specs.Texts.{listed, row_text};
 use field::Element;
 use std::fmt;
 
-// Elements, with a comma and a space between them.
+// Elements, with a text between them.
 #[derive(Clone, Copy)]
-pub struct Listed<'a>(pub &'a [Element]);
+pub struct Listed<'a> {
+    pub elements: &'a [Element],
+    pub between: &'a str,
+}
 
 impl fmt::Display for Listed<'_> {
-    ghost output = { λ l. Some (listed l.0.now) };
+    ghost output = { λ l. Some (listed l.between.now l.elements.now) };
 
     fn fmt<W: fmt::Write>(&self, f: &mut fmt::Formatter<W>) -> fmt::Result {
-        let Some((first, rest)) = self.0.split_first() else {
+        let Some((first, rest)) = self.elements.split_first() else {
             return Ok(());
         };
         write!(f, "{}", first.0)?;
         for element in rest {
-            write!(f, ", {}", element.0)?;
+            write!(f, "{}{}", self.between, element.0)?;
         }
         Ok(())
     }
@@ -34,7 +37,10 @@ impl fmt::Display for Row<'_> {
     ghost output = { λ r. Some (row_text r.weights.now r.figure) };
 
     fn fmt<W: fmt::Write>(&self, f: &mut fmt::Formatter<W>) -> fmt::Result {
-        let weights = Listed(self.weights);
+        let weights = Listed {
+            elements: self.weights,
+            between: ", ",
+        };
         write!(f, "({weights} : {})", self.figure.0)
     }
 }

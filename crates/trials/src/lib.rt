@@ -1,7 +1,7 @@
 // What trials of generated rows have in common: pseudo-random numbers, and the figure of a row, computed plainly.
 #![tactic(auto)]
 
-ghost use Rattle.std.specs.Prelude.{◌≡◌, ◌<◌};
+ghost use Rattle.std.specs.Prelude.{◌≡◌, ◌+◌, ◌<◌, min};
 ghost use Rattle.trials.specs.Trials.{stepped, rolled, figured};
 
 use field::{Element, Field};
@@ -46,4 +46,11 @@ pub fn figure<F: Field>(row: &[Element], table: &[Element]) -> Element
         .fold(Element(0), |sum, (weight, value)| {
             F::add(sum, F::mul(*weight, *value))
         })
+}
+
+// Counts one more, and stays at the greatest count.
+pub fn count_one(count: &mut usize)
+    ensures { count.new ≡ min (count.old + 1) usize.MAX }
+{
+    *count = count.saturating_add(1);
 }
