@@ -29,10 +29,10 @@ impl Given {
 
     // Takes a row with its figure, where it is one to be admitted.
     pub(crate) fn take(&mut self, verdict: Verdict, figured: Figured) -> Result<(), AllocError> {
-        match verdict {
-            Verdict::Fixed | Verdict::Free => self.taken.push(figured),
-            Verdict::NamesNobody | Verdict::Pinning(_) => Ok(()),
+        if matches!(verdict, Verdict::Fixed | Verdict::Free) {
+            self.taken.push(figured)?;
         }
+        Ok(())
     }
 
     // Each row taken 0 times, once or twice: a row that these rows fix.
@@ -49,8 +49,6 @@ impl Given {
 
     // Whether a table has the figure of each row.
     pub(crate) fn fits<F: Field>(&self, table: &Row) -> bool {
-        self.taken
-            .iter()
-            .all(|figured| figure::<F>(&figured.row, table) == figured.figure)
+        self.taken.iter().all(|figured| figure::<F>(&figured.row, table) == figured.figure)
     }
 }

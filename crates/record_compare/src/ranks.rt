@@ -32,12 +32,12 @@ fn rank<F: Field>(rows: &mut [Row], n: usize) -> usize
 {
     let mut rank = 0;
     for m in 0..n {
-        let naming = rows[rank..].iter().position(|row| row[m] != Element(0));
+        let naming = rows.iter().skip(rank).position(|row| row[m] != Element(0));
         if let Some(after) = naming {
             rows.swap(rank, rank + after);
             let pivot = rows[rank];
             rank += 1;
-            for row in &mut rows[rank..] {
+            for row in rows.iter_mut().skip(rank) {
                 if row[m] != Element(0) {
                     *row = without::<F>(row, &pivot, m);
                 }

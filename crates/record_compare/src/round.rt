@@ -37,7 +37,8 @@ fn witness_fits<F: Field>(
     requires member { member < n }
 {
     let mut table = NOBODY;
-    rec.witness(Member(member), element, &mut table[..n]).is_ok()
+    rec.witness(Member(member), element, &mut table[..n])
+        .is_ok()
         && table[member] == element
         && given.fits::<F>(&table)
 }

@@ -37,7 +37,8 @@ pub(crate) fn admitted_alike(verdict: Verdict, admitted: Result<Admission, Refus
     match (verdict, admitted) {
         (Verdict::NamesNobody, Err(Refusal::NoMemberNamed(Site::Nothing))) => true,
         (Verdict::Fixed, Ok(Admission::Kept)) => true,
-        (Verdict::Pinning(pinned), Err(Refusal::Discloses(Site::OfMember(member)))) => member == pinned,
+        (Verdict::Pinning(pinned), Err(Refusal::Discloses(Site::OfMember(member)))) => member
+            == pinned,
         (Verdict::Free, Ok(Admission::Joined)) => true,
         _ => false,
     }
@@ -66,16 +67,11 @@ impl Tally {
     pub(crate) fn show(&self, rt: &HostRuntime, field: &str, members: usize) -> io::Result<()> {
         println!(rt;
             "{field}, {members} members: {} rows, {} agree, {} witnesses fit",
-            self.rows,
-            self.agree,
-            self.witnesses,
+            self.rows, self.agree, self.witnesses,
         )?;
         println!(rt;
             "  {} free, {} fixed, {} pinning, {} naming nobody",
-            self.free,
-            self.fixed,
-            self.pinning,
-            self.nobody,
+            self.free, self.fixed, self.pinning, self.nobody,
         )
     }
 }
