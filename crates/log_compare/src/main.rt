@@ -6,7 +6,6 @@ use std::io;
 use ticks::Ticks;
 
 mod compare;
-mod dice;
 mod made;
 mod rounds;
 mod tally;
