@@ -20,7 +20,11 @@ const SHOPS_1_2: &[Element] = &[Element(0), Element(1), Element(1)];
 
 const ALL: &[Element] = &[Element(1), Element(1), Element(1)];
 
-fn told<T: fmt::Display + Drop>(rt: &HostRuntime, case: &str, answer: Result<T, Refusal>) -> io::Result<()> {
+fn told<T: fmt::Display + Drop>(
+    rt: &HostRuntime,
+    case: &str,
+    answer: Result<T, Refusal>,
+) -> io::Result<()> {
     println!(rt; "{case}: {}", Answered(answer))
 }
 

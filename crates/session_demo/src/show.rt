@@ -5,6 +5,7 @@ use shown::{Listed, Refused};
 use std::fmt;
 
 // The named members of a row, each with its weight unless that is 1.
+#[derive(Clone, Copy)]
 struct Named<'a>(&'a [Element]);
 
 impl fmt::Display for Named<'_> {
@@ -21,6 +22,7 @@ impl fmt::Display for Named<'_> {
 }
 
 // A call of a list.
+#[derive(Clone, Copy)]
 pub(crate) struct Asked<'a>(pub &'a Call<'a>);
 
 impl fmt::Display for Asked<'_> {
@@ -40,6 +42,7 @@ impl fmt::Display for Asked<'_> {
 }
 
 // The reply to a call, where a filled buffer counts for so many members.
+#[derive(Clone, Copy)]
 pub(crate) struct Replied<'a> {
     pub reply: &'a Reply,
     pub members: usize,
