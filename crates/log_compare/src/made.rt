@@ -17,11 +17,6 @@ pub(crate) struct Made {
     ghost within: { used ≤ 2048 },
 }
 
-// A table of 64 members.
-pub(crate) fn table<F: Field>(dice: &mut Dice) -> [Element; 64] {
-    array::from_fn(|_| dice.element::<F>())
-}
-
 // Many or few of 64 weights, each 1 or each any element.
 pub(crate) fn generated<F: Field>(dice: &mut Dice) -> [Element; 64] {
     let few = 1 + dice.roll(6);
@@ -57,21 +52,20 @@ impl Made {
     }
 
     // Gives a row with its figure over a table to the record, and writes it where it is admitted.
-    pub(crate) fn give<F: Field>(
-        &mut self,
-        rec: &mut Record<F>,
-        row: &[Element],
-        table: &[Element],
-        n: usize,
-    )
-        requires sound { Sound F.model rec.old }
+    pub(crate) fn give<F: Field>(&mut self, rec: &mut Record<F>, row: &[Element], table: &[Element])
+        requires { Sound F.model rec.old }
         ensures { Sound F.model rec.new }
     {
         let figure = figure::<F>(row, table);
         if rec.admit(row, figure).is_err() {
             return;
         }
-        if let Ok(length) = write_row::<F>(n, row, figure, &mut self.buffer[self.used..]) {
+        if let Ok(length) = write_row::<F>(
+            rec.count(),
+            row,
+            figure,
+            &mut self.buffer[self.used..],
+        ) {
             self.used += length;
             self.rows = self.rows.saturating_add(1);
         }

@@ -3,24 +3,24 @@ ghost use Rattle.std.specs.Prelude.{◌≤◌, length};
 ghost use Rattle.record.specs.Records.{Sound};
 
 use crate::compare::{Outcome, damaged, read_back};
-use crate::made::{Made, generated, table};
+use crate::made::{Made, generated};
 use crate::tally::Tally;
-use field::Field;
+use field::{Element, Field};
 use record::{Record, Room};
-use std::io;
+use std::{array, io};
 use trials::Dice;
 
 // A log of at most 12 rows.
-fn made<F: Field>(dice: &mut Dice, rec: &mut Record<F>, n: usize) -> Made
+fn made<F: Field>(dice: &mut Dice, rec: &mut Record<F>) -> Made
     requires sound { Sound F.model rec.old }
-    requires few { n ≤ 64 }
     ensures { Sound F.model rec.new }
 {
-    let table = table::<F>(dice);
+    let n = rec.count();
+    let table: [Element; 64] = array::from_fn(|_| dice.element::<F>());
     let mut log = Made::header::<F>(n);
     for _ in 0..12 {
         let row = generated::<F>(dice);
-        log.give(rec, &row[..n], &table[..n], n);
+        log.give(rec, &row[..n], &table[..n]);
     }
     log
 }
@@ -35,11 +35,14 @@ fn turn(dice: &mut Dice, log: &mut [u8])
     }
 }
 
-fn round<F: Field>(rt: &HostRuntime, dice: &mut Dice, n: usize, tally: &mut Tally) -> io::Result<()>
-    requires { n ≤ 64 }
-{
+fn round<F: Field>(
+    rt: &HostRuntime,
+    dice: &mut Dice,
+    n: usize,
+    tally: &mut Tally,
+) -> io::Result<()> {
     let mut rec = Record::<F>::new(Room::new(rt.alloc())?, n);
-    let made = made(dice, &mut rec, n);
+    let made = made(dice, &mut rec);
     tally.log(made.rows, read_back(rt.alloc(), &rec, made.log(), n)?);
     for _ in 0..20 {
         let mut log = made.log().to_vec(rt.alloc())?;
@@ -50,9 +53,7 @@ fn round<F: Field>(rt: &HostRuntime, dice: &mut Dice, n: usize, tally: &mut Tall
 }
 
 // All the rounds over one field and count, and what came of them.
-pub(crate) fn all<F: Field>(rt: &HostRuntime, field: &str, n: usize) -> io::Result<()>
-    requires { n ≤ 64 }
-{
+pub(crate) fn all<F: Field>(rt: &HostRuntime, field: &str, n: usize) -> io::Result<()> {
     let mut dice = Dice::new(u64::from(F::kind()));
     let mut tally = Tally::default();
     for _ in 0..25 {

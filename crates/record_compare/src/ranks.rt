@@ -1,8 +1,8 @@
 // The plain way to judge a row: ranks of lists of rows, each by elimination from scratch.
-ghost use Rattle.std.specs.Prelude.{◌<◌, ◌≤◌};
+ghost use Rattle.std.specs.Prelude.{◌<◌};
 
 use crate::given::Figured;
-use crate::rows::{NOBODY, Row};
+use crate::rows::{NOBODY, Row, alone};
 use field::{Element, Field};
 use refusal::Member;
 use std::alloc::{AllocError, Global};
@@ -27,11 +27,9 @@ fn without<F: Field>(row: &Row, by: &Row, m: usize) -> Row
 }
 
 // How many rows are left when each in turn has been taken from those after it.
-fn rank<F: Field>(rows: &mut [Row], n: usize) -> usize
-    requires { n ≤ 64 }
-{
+fn rank<F: Field>(rows: &mut [Row]) -> usize {
     let mut rank = 0;
-    for m in 0..n {
+    for m in 0..64 {
         let naming = rows.iter().skip(rank).position(|row| row[m] != Element(0));
         if let Some(after) = naming {
             rows.swap(rank, rank + after);
@@ -52,16 +50,13 @@ pub(crate) fn rank_with<F: Field>(
     heap: Global,
     given: &[Figured],
     more: &[Row],
-    n: usize,
-) -> Result<usize, AllocError>
-    requires { n ≤ 64 }
-{
+) -> Result<usize, AllocError> {
     let mut rows = Vec::new(heap);
     for figured in given {
         rows.push(figured.row)?;
     }
     rows.extend_from_slice(more)?;
-    Ok(rank::<F>(rows.as_mut_slice(), n))
+    Ok(rank::<F>(rows.as_mut_slice()))
 }
 
 // A row is fixed if it adds nothing to the rank, and a member is pinned if its row alone then adds nothing.
@@ -70,20 +65,16 @@ pub(crate) fn plain_verdict<F: Field>(
     given: &[Figured],
     row: &Row,
     n: usize,
-) -> Result<Verdict, AllocError>
-    requires { n ≤ 64 }
-{
+) -> Result<Verdict, AllocError> {
     if *row == NOBODY {
         return Ok(Verdict::NamesNobody);
     }
-    let after = rank_with::<F>(heap, given, &[*row], n)?;
-    if after == rank_with::<F>(heap, given, &[], n)? {
+    let after = rank_with::<F>(heap, given, &[*row])?;
+    if after == rank_with::<F>(heap, given, &[])? {
         return Ok(Verdict::Fixed);
     }
     for i in 0..n {
-        let mut alone = NOBODY;
-        alone[i] = Element(1);
-        if after == rank_with::<F>(heap, given, &[*row, alone], n)? {
+        if after == rank_with::<F>(heap, given, &[*row, alone(i)])? {
             return Ok(Verdict::Pinning(Member(i)));
         }
     }

@@ -4,13 +4,13 @@ ghost use Rattle.record.specs.Records.{Sound};
 
 use crate::given::{Figured, Given};
 use crate::ranks::{plain_verdict, rank_with};
-use crate::rows::{NOBODY, generated, table};
+use crate::rows::{NOBODY, Row, generated};
 use crate::tally::{Tally, admitted_alike, judged_alike};
 use field::{Element, Field};
 use record::{Record, Room};
 use refusal::Member;
 use std::alloc::{AllocError, Global};
-use std::io;
+use std::{array, io};
 use trials::{Dice, figure};
 
 // Rows are generated over `reach` of the members, which each round places anew.
@@ -25,19 +25,12 @@ pub(crate) struct Play {
 }
 
 // Whether a witness of the record has its element at its member, and fits all the rows given.
-fn witness_fits<F: Field>(
-    rec: &Record<F>,
-    given: &Given,
-    n: usize,
-    member: usize,
-    element: Element,
-) -> bool
+fn witness_fits<F: Field>(rec: &Record<F>, given: &Given, member: usize, element: Element) -> bool
     requires sound { Sound F.model rec.now }
-    requires few { n ≤ 64 }
-    requires member { member < n }
+    requires member { member < 64 }
 {
     let mut table = NOBODY;
-    rec.witness(Member(member), element, &mut table[..n])
+    rec.witness(Member(member), element, &mut table[..rec.count()])
         .is_ok()
         && table[member] == element
         && given.fits::<F>(&table)
@@ -49,21 +42,20 @@ fn give<F: Field>(
     rec: &mut Record<F>,
     given: &mut Given,
     figured: Figured,
-    n: usize,
     tally: &mut Tally,
 ) -> Result<bool, AllocError>
-    requires sound { Sound F.model rec.old }
-    requires few { n ≤ 64 }
+    requires { Sound F.model rec.old }
     ensures { Sound F.model rec.new }
 {
     let Figured { row, figure } = figured;
+    let n = rec.count();
     let expected = plain_verdict::<F>(heap, given.rows(), &row, n)?;
     let judged = rec.judge(&row[..n]);
     let admitted = rec.admit(&row[..n], figure);
     given.take(expected, figured)?;
     let agree = judged_alike(expected, figure, judged)
         && admitted_alike(expected, admitted)
-        && rec.row_count() == rank_with::<F>(heap, given.rows(), &[], n)?;
+        && rec.row_count() == rank_with::<F>(heap, given.rows(), &[])?;
     tally.row(expected, agree);
     Ok(agree)
 }
@@ -77,9 +69,8 @@ fn round<F: Field>(
 ) -> io::Result<()>
     requires { Sound F.model rec.old }
 {
-    let n = play.members as usize;
     let start = dice.roll(play.members - play.reach + 1);
-    let table = table::<F>(dice);
+    let table: Row = array::from_fn(|_| dice.element::<F>());
     let mut given = Given::nothing(rt.alloc());
     for k in 0..play.rows {
         let row = if dice.roll(4) == 0 {
@@ -91,11 +82,11 @@ fn round<F: Field>(
             row,
             figure: figure::<F>(&row, &table),
         };
-        if !give(rt.alloc(), rec, &mut given, figured, n, tally)? {
+        if !give(rt.alloc(), rec, &mut given, figured, tally)? {
             println!(rt; "row {k} of a round: the two differ")?;
         }
         let member = dice.roll(play.members) as usize;
-        if witness_fits(rec, &given, n, member, dice.element::<F>()) {
+        if witness_fits(rec, &given, member, dice.element::<F>()) {
             tally.witness();
         }
     }

@@ -35,9 +35,9 @@ impl Weights {
     }
 }
 
-// A table of 64 members.
-pub(crate) fn table<F: Field>(dice: &mut Dice) -> Row {
-    array::from_fn(|_| dice.element::<F>())
+// The row that names one member alone.
+pub(crate) fn alone(member: usize) -> Row {
+    array::from_fn(|m| Element(u32::from(m == member)))
 }
 
 // Many or few weights of one sort, for the members from `start` on that are within `reach`.

@@ -12,40 +12,20 @@ use session::Session;
 use shown::Refused;
 use std::io;
 
-// A text with its name, and the bytes of both buffers.
+// The name, the text, and the bytes of both buffers: of the answers, and of the log.
 #[derive(Clone, Copy)]
-pub(crate) struct Case<'a> {
-    pub name: &'a str,
-    pub text: &'a [u8],
-    pub answers: usize,
-    pub log: usize,
-}
-
-impl<'a> Case<'a> {
-    pub(crate) const fn new(name: &'a str, text: &'a [u8], answers: usize, log: usize) -> Case<'a> {
-        Case {
-            name,
-            text,
-            answers,
-            log,
-        }
-    }
-}
+pub(crate) struct Case<'a>(pub &'a str, pub &'a [u8], pub usize, pub usize);
 
 fn one<S: Server>(rt: &HostRuntime, session: &mut Session<S>, case: Case) -> io::Result<()>
     requires { Sound S.Over.Field.model (length (S.Server.table session.old.server)) session.old }
     ensures sound { Sound S.Over.Field.model (length (S.Server.table session.old.server)) session.new }
     ensures server { session.new.server ≡ session.old.server }
 {
-    let mut answers = vec![in rt.alloc(); MARK; case.answers]?;
-    let mut log = vec![in rt.alloc(); MARK; case.log]?;
-    let done = replay(
-        session,
-        case.text,
-        answers.as_mut_slice(),
-        log.as_mut_slice(),
-    );
-    show::replayed(rt, case.name, &done, answers.as_slice(), log.as_slice())
+    let Case(name, text, answers, log) = case;
+    let mut answers = vec![in rt.alloc(); MARK; answers]?;
+    let mut log = vec![in rt.alloc(); MARK; log]?;
+    let done = replay(session, text, answers.as_mut_slice(), log.as_mut_slice());
+    show::replayed(rt, name, &done, answers.as_slice(), log.as_slice())
 }
 
 fn texts<S: Server>(rt: &HostRuntime, session: &mut Session<S>, cases: &[Case]) -> io::Result<()>
@@ -58,7 +38,11 @@ fn texts<S: Server>(rt: &HostRuntime, session: &mut Session<S>, cases: &[Case]) 
 }
 
 // Texts over one new session, one after another.
-pub(crate) fn over<F: Field>(rt: &HostRuntime, values: &[Element], cases: &[Case]) -> io::Result<()> {
+pub(crate) fn over<F: Field>(
+    rt: &HostRuntime,
+    values: &[Element],
+    cases: &[Case],
+) -> io::Result<()> {
     let server = match Array::<F>::new(values) {
         Ok(server) => server,
         Err(refusal) => return println!(rt; "{}", Refused(refusal)),
