@@ -15,7 +15,7 @@ pub(crate) fn spaced_length(value: usize) -> usize
     1 + digit_count(value)
 }
 
-// Writes a number.
+// Writes a number. Not by `write!`, whose contract says what was written where it succeeds, and not where it succeeds.
 pub(crate) fn put_number(value: usize, out: &mut [u8]) -> usize
     requires { length (decimal value) ≤ length out.old }
     ensures { Put (decimal value) out.old out.new result }
@@ -41,7 +41,7 @@ pub(crate) fn room_after_elements(elements: &[Element], room: usize) -> Option<u
     })
 }
 
-// Writes the elements, each after a space.
+// Writes the elements, each after a space. The rest of the buffer is lent to each in turn, so the place is added up.
 pub(crate) fn put_elements(elements: &[Element], out: &mut [u8]) -> usize
     requires { length (spaced (codes elements.now)) ≤ length out.old }
     ensures { Put (spaced (codes elements.now)) out.old out.new result }

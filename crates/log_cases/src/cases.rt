@@ -6,7 +6,7 @@ use record::{Record, Room, RowNumber};
 use shown::{Answered, Row};
 use std::io;
 
-// The name, the count of members, and the log.
+// The name, the count of members, and the log: a tuple, so that a list of logs has one line for each.
 pub(crate) type Case<'a> = (&'a str, usize, &'a [u8]);
 
 // Whether a log is written again as the bytes that it was read from.

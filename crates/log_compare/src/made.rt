@@ -8,7 +8,7 @@ use record::Record;
 use std::array;
 use trials::{Dice, figure};
 
-// What is written so far stands at the front of the buffer: a row is written to what is left of it.
+// The buffer and what is used of it, and no `Vec`: a row is written to the front of what is left.
 #[derive(Clone, Copy)]
 pub(crate) struct Made {
     buffer: [u8; 2048],

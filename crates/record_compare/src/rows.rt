@@ -18,7 +18,7 @@ enum Weights {
 }
 
 impl Weights {
-    fn any(dice: &mut Dice) -> Weights {
+    fn rolled(dice: &mut Dice) -> Weights {
         match dice.roll(3) {
             0 => Weights::One,
             1 => Weights::OneOrTwo,
@@ -45,7 +45,7 @@ pub(crate) fn generated<F: Field>(dice: &mut Dice, start: u32, reach: u32) -> Ro
     requires { start + reach ≤ 64 }
 {
     let few = dice.roll(reach) + 1;
-    let weights = Weights::any(dice);
+    let weights = Weights::rolled(dice);
     let mut row = NOBODY;
     for weight in &mut row[start as usize..(start + reach) as usize] {
         if dice.roll(few) == 0 {
