@@ -37,8 +37,7 @@ pub(crate) fn admitted_alike(verdict: Verdict, admitted: Result<Admission, Refus
     match (verdict, admitted) {
         (Verdict::NamesNobody, Err(Refusal::NoMemberNamed(Site::Nothing))) => true,
         (Verdict::Fixed, Ok(Admission::Kept)) => true,
-        (Verdict::Pinning(pinned), Err(Refusal::Discloses(Site::OfMember(member)))) => member
-            == pinned,
+        (Verdict::Pinning(i), Err(Refusal::Discloses(site))) => site == Site::OfMember(i),
         (Verdict::Free, Ok(Admission::Joined)) => true,
         _ => false,
     }

@@ -1,5 +1,6 @@
 // The survey by single calls: rows that are answered, and one that is only tried.
 use crate::clients::{ask_once, try_once};
+use crate::listed::{SHOPS_0_1, SHOPS_0_2, SHOPS_1_2};
 use field::Element;
 use record::Room;
 use refusal::Refusal;
@@ -11,12 +12,6 @@ use ticks::Ticks;
 
 // How often the three shops were visited.
 const VISITS: [Element; 3] = [Element(12), Element(10), Element(7)];
-
-const SHOPS_0_1: &[Element] = &[Element(1), Element(1), Element(0)];
-
-const SHOPS_0_2: &[Element] = &[Element(1), Element(0), Element(1)];
-
-const SHOPS_1_2: &[Element] = &[Element(0), Element(1), Element(1)];
 
 const ALL: &[Element] = &[Element(1), Element(1), Element(1)];
 

@@ -11,11 +11,11 @@ use std::io;
 // What the three shops took.
 const TAKINGS: [Element; 3] = [Element(120), Element(95), Element(70)];
 
-const SHOPS_0_1: &[Element] = &[Element(1), Element(1), Element(0)];
+pub(crate) const SHOPS_0_1: &[Element] = &[Element(1), Element(1), Element(0)];
 
-const SHOPS_1_2: &[Element] = &[Element(0), Element(1), Element(1)];
+pub(crate) const SHOPS_1_2: &[Element] = &[Element(0), Element(1), Element(1)];
 
-const SHOPS_0_2: &[Element] = &[Element(1), Element(0), Element(1)];
+pub(crate) const SHOPS_0_2: &[Element] = &[Element(1), Element(0), Element(1)];
 
 const TWICE_0_1: &[Element] = &[Element(2), Element(2), Element(0)];
 
