@@ -1,17 +1,13 @@
 -- Numbers after spaces, and how long lines are. Assumes nothing.
 use Rattle.std.proofs.Common.{◌≡◌, ℕ, suc, ◌+◌, ◌*◌, ◌<◌, ◌≤◌, List, [], ◌∷◌, ◌++◌, length, get_or, take, drop, decimal, sym, refl, ap, ◌∙◌, arith}
-use Rattle.std.proofs.lemmas.List.{append_assoc, length-append, map-append, map_more, flat_map_more, take-append-drop}
+use Rattle.std.proofs.lemmas.List.{length-append, map-append, map_more, flat_map_more, take-append-drop}
+use Rattle.std.proofs.lemmas.Grind.{flat_map-append}
 use Rattle.field.specs.Sums.{weights_of}
 use Rattle.field.specs.declared.Element.{Element}
 use Rattle.server.specs.Tables.{codes}
 use Rattle.history.specs.Events.{Reply, permits, gives, takes_back, fills, refuses}
 use Rattle.buffer.proofs.Digits.{five_digits}
 use Rattle.answer_text.specs.AnswerLines.{after_space, spaced, reply_text, newline, answer_line, Short, LinesFit}
-
-spaced-append : (vs ws : List ℕ) → spaced (vs ++ ws) ≡ spaced vs ++ spaced ws
-spaced-append [] ws = refl
-spaced-append (v ∷ vs) ws =
-    ap (λ us. after_space v ++ us) (spaced-append vs ws) ∙ sym (append_assoc (after_space v) (spaced vs) (spaced ws))
 
 -- one element more
 pub element_more :
@@ -29,7 +25,7 @@ element_more_length es i h =
 -- the first elements take no more than all of them
 pub elements-below : (es : List Element) (i : ℕ) → length (spaced (codes (take i es))) ≤ length (spaced (codes es))
 elements-below es i =
-    let all = ap length (ap (λ us. spaced (codes us)) (sym (take-append-drop i es)) ∙ ap spaced (map-append (λ e. e.0) (take i es) (drop i es)) ∙ spaced-append (codes (take i es)) (codes (drop i es))) in
+    let all = ap length (ap (λ us. spaced (codes us)) (sym (take-append-drop i es)) ∙ ap spaced (map-append (λ e. e.0) (take i es) (drop i es)) ∙ flat_map-append after_space (codes (take i es)) (codes (drop i es))) in
     let parts = length-append (spaced (codes (take i es))) (spaced (codes (drop i es))) in
     omega arith
 

@@ -9,5 +9,6 @@ pub enum Answer<'a> {
     Granted,
     // The elements of the witness table.
     Witness(&'a [Element]),
+    // One more kind of line, and no error that anybody hands on.
     Refused(Refusal),
 }

@@ -1,5 +1,5 @@
 // The line that a line of query text prints.
-ghost use Rattle.std.specs.Prelude.{◌≡◌, ◌+◌, ◌<◌, ◌≤◌, ◌∷◌, ◌++◌, length, MatchOption, nat_le};
+ghost use Rattle.std.specs.Prelude.{◌≡◌, ◌+◌, ◌<◌, ◌≤◌, ◌∷◌, ◌++◌, length, MatchOption};
 ghost use Rattle.buffer.specs.Buffers.{Put, Writes};
 ghost use Rattle.answer_text.specs.AnswerLines.{reply_text, newline, answer_line, reply_of_answer};
 
@@ -42,16 +42,6 @@ fn put_text(answer: &Answer, out: &mut [u8]) -> usize
     }
 }
 
-// Whether the whole line fits in the room.
-fn line_fits(line: usize, answer: &Answer, room: usize) -> bool
-    ensures { result ≡ nat_le (length (answer_line line (reply_of_answer answer.now))) room }
-{
-    match room.checked_sub(digit_count(line) + 2) {
-        Some(rest) => room_after_text(answer, rest).is_some(),
-        None => false,
-    }
-}
-
 // Writes what comes after a line's number: a space, the text of the answer, a newline.
 fn put_rest(answer: &Answer, out: &mut [u8]) -> usize
     requires { 2 + length (reply_text (reply_of_answer answer.now)) ≤ length out.old }
@@ -68,9 +58,8 @@ fn put_rest(answer: &Answer, out: &mut [u8]) -> usize
 pub fn write_answer(line: usize, answer: &Answer, out: &mut [u8]) -> Option<usize>
     ensures { Writes (answer_line line (reply_of_answer answer.now)) out.old out.new result }
 {
-    if !line_fits(line, answer, out.len()) {
-        return None;
-    }
+    let rest = out.len().checked_sub(digit_count(line) + 2)?;
+    room_after_text(answer, rest)?;
     let at = put_number(line, out);
     Some(at + put_rest(answer, &mut out[at..]))
 }

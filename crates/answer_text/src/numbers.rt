@@ -15,15 +15,12 @@ pub(crate) fn spaced_length(value: usize) -> usize
     1 + digit_count(value)
 }
 
-// Writes a number.
+// Writes a number. Not by `write!`, whose contract says what was written where it succeeds, and not where it succeeds.
 pub(crate) fn put_number(value: usize, out: &mut [u8]) -> usize
     requires { length (decimal value) ≤ length out.old }
     ensures { Put (decimal value) out.old out.new result }
 {
-    match put_decimal(value, out) {
-        Some(count) => count,
-        None => unreachable(),
-    }
+    put_decimal(value, out).unwrap()
 }
 
 // Writes a space and a number.
@@ -39,18 +36,12 @@ pub(crate) fn put_spaced(value: usize, out: &mut [u8]) -> usize
 pub(crate) fn room_after_elements(elements: &[Element], room: usize) -> Option<usize>
     ensures { MatchOption result (room < length (spaced (codes elements.now))) (λ left. left + length (spaced (codes elements.now)) ≡ room) }
 {
-    let mut left = room;
-    for element in elements {
-        let length = spaced_length(element.0 as usize);
-        if left < length {
-            return None;
-        }
-        left -= length;
-    }
-    Some(left)
+    elements.iter().try_fold(room, |left, element| {
+        left.checked_sub(spaced_length(element.0 as usize))
+    })
 }
 
-// Writes the elements, each after a space.
+// Writes the elements, each after a space. The rest of the buffer is lent to each in turn, so the place is added up.
 pub(crate) fn put_elements(elements: &[Element], out: &mut [u8]) -> usize
     requires { length (spaced (codes elements.now)) ≤ length out.old }
     ensures { Put (spaced (codes elements.now)) out.old out.new result }

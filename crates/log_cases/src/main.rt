@@ -6,7 +6,6 @@ use std::io;
 mod amounts_logs;
 mod cases;
 mod resumed;
-mod show;
 mod ticks_logs;
 
 fn main(rt: HostRuntime) -> io::Result<()> {

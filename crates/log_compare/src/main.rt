@@ -6,7 +6,6 @@ use std::io;
 use ticks::Ticks;
 
 mod compare;
-mod dice;
 mod made;
 mod rounds;
 mod tally;
@@ -15,9 +14,8 @@ const COUNTS: [usize; 6] = [1, 3, 8, 9, 17, 64];
 
 fn main(rt: HostRuntime) -> io::Result<()> {
     for n in COUNTS {
-        let members = n.min(64);
-        rounds::all::<Amounts>(&rt, "amounts", members)?;
-        rounds::all::<Ticks>(&rt, "ticks", members)?;
+        rounds::all::<Amounts>(&rt, "amounts", n)?;
+        rounds::all::<Ticks>(&rt, "ticks", n)?;
     }
     Ok(())
 }

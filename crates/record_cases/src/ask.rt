@@ -1,10 +1,11 @@
 // What is asked of a record, one thing after another.
-ghost use Rattle.record.specs.Records.{Sound};
 
 use crate::show;
+use crate::show::{Admitted, Judged};
 use field::{Element, Field};
 use record::{Record, Room};
 use refusal::Member;
+use shown::{Answered, Refused};
 use std::io;
 
 #[derive(Clone, Copy)]
@@ -26,33 +27,34 @@ fn witness<F: Field>(
     element: Element,
     length: usize,
 ) -> io::Result<()>
-    requires { Sound F.model rec.now }
 {
     let mut room = [Element(9); 64];
     let out = &mut room[0..length.min(64)];
     match rec.witness(member, element, out) {
         Ok(()) => show::table(rt, case, out),
         Err(refusal) => {
-            show::refused(rt, case, refusal)?;
+            println!(rt; "{case}: {}", Refused(refusal))?;
             show::table(rt, "its buffer", out)
         }
     }
 }
 
 fn one<F: Field>(rt: &HostRuntime, case: &str, rec: &mut Record<F>, ask: Ask) -> io::Result<()>
-    requires { Sound F.model rec.old }
-    ensures { Sound F.model rec.new }
 {
     match ask {
         Ask::Rows => show::rows(rt, case, rec),
-        Ask::Judge(row) => show::judged(rt, case, rec.judge(row)),
-        Ask::Admit(row, figure) => show::admitted(rt, case, rec.admit(row, figure)),
+        Ask::Judge(row) => { println!(rt; "{case}: {}", Answered(rec.judge(row).map(Judged))) }
+        Ask::Admit(row, figure) => {
+            println!(rt;
+                "{case}: {}",
+                Answered(rec.admit(row, figure).map(Admitted))
+            )
+        }
         Ask::Witness(member, element, length) => witness(rt, case, rec, member, element, length),
     }
 }
 
 fn each<F: Field>(rt: &HostRuntime, rec: &mut Record<F>, asks: &[(&str, Ask)]) -> io::Result<()>
-    requires { Sound F.model rec.old }
 {
     for (case, ask) in asks {
         one(rt, case, rec, *ask)?;

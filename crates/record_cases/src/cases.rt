@@ -7,9 +7,9 @@ use refusal::Member;
 use std::io;
 use ticks::Ticks;
 
-const ROW_2: &[Element] = &[Element(0), Element(0), Element(1)];
+pub(crate) const ROW_2: &[Element] = &[Element(0), Element(0), Element(1)];
 
-const ROW_0_1: &[Element] = &[Element(1), Element(1), Element(0)];
+pub(crate) const ROW_0_1: &[Element] = &[Element(1), Element(1), Element(0)];
 
 const ROW_1_2: &[Element] = &[Element(0), Element(1), Element(1)];
 

@@ -1,6 +1,7 @@
 // What is refused, in the order of the checks.
 use crate::ask;
 use crate::ask::Ask;
+use crate::cases::{ROW_0_1, ROW_2};
 use amounts::Amounts;
 use field::Element;
 use refusal::Member;
@@ -8,10 +9,6 @@ use std::io;
 use ticks::Ticks;
 
 const NOBODY: &[Element] = &[Element(0), Element(0), Element(0)];
-
-const ROW_0_1: &[Element] = &[Element(1), Element(1), Element(0)];
-
-const ROW_2: &[Element] = &[Element(0), Element(0), Element(1)];
 
 const ROWS: [(&str, Ask); 9] = [
     ("no weights", Ask::Judge(&[])),

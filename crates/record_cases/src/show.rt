@@ -1,67 +1,42 @@
 // How answers are shown.
 use field::{Element, Field};
-use record::{Admission, Judgement, Record, RecordRow, RowNumber};
-use refusal::Refusal;
-use std::io;
+use record::{Admission, Judgement, Record, RowNumber};
+use shown::Row;
+use std::{fmt, io};
 
-pub(crate) fn refused(rt: &HostRuntime, case: &str, refusal: Refusal) -> io::Result<()> {
-    let number = refusal.number();
-    let detail = refusal.detail();
-    println!(rt; "{case}: refused by {number} with {detail}")
-}
+// A judgement, in words.
+#[derive(Clone, Copy)]
+pub(crate) struct Judged(pub Judgement);
 
-pub(crate) fn judged(
-    rt: &HostRuntime,
-    case: &str,
-    answer: Result<Judgement, Refusal>,
-) -> io::Result<()> {
-    match answer {
-        Ok(Judgement::Fixed(figure)) => {
-            let code = figure.0;
-            println!(rt; "{case}: fixed at {code}")
+impl fmt::Display for Judged {
+    fn fmt<W: fmt::Write>(&self, f: &mut fmt::Formatter<W>) -> fmt::Result {
+        match self.0 {
+            Judgement::Fixed(figure) => write!(f, "fixed at {}", figure.0),
+            Judgement::Pinning(member) => write!(f, "pins member {}", member.0),
+            Judgement::Free => f.write_str("free"),
         }
-        Ok(Judgement::Pinning(member)) => {
-            let number = member.0;
-            println!(rt; "{case}: pins member {number}")
-        }
-        Ok(Judgement::Free) => println!(rt; "{case}: free"),
-        Err(refusal) => refused(rt, case, refusal),
     }
 }
 
-pub(crate) fn admitted(
-    rt: &HostRuntime,
-    case: &str,
-    answer: Result<Admission, Refusal>,
-) -> io::Result<()> {
-    match answer {
-        Ok(Admission::Joined) => println!(rt; "{case}: joined"),
-        Ok(Admission::Kept) => println!(rt; "{case}: kept"),
-        Err(refusal) => refused(rt, case, refusal),
+// What became of a row, in words.
+#[derive(Clone, Copy)]
+pub(crate) struct Admitted(pub Admission);
+
+impl fmt::Display for Admitted {
+    fn fmt<W: fmt::Write>(&self, f: &mut fmt::Formatter<W>) -> fmt::Result {
+        f.write_str(match self.0 {
+            Admission::Joined => "joined",
+            Admission::Kept => "kept",
+        })
     }
 }
 
 pub(crate) fn table(rt: &HostRuntime, case: &str, elements: &[Element]) -> io::Result<()> {
     print!(rt; "{case}:")?;
     for e in elements {
-        let code = e.0;
-        print!(rt; " {code}")?;
+        print!(rt; " {}", e.0)?;
     }
     println!(rt; "")
-}
-
-fn row(rt: &HostRuntime, found: RecordRow, members: usize) -> io::Result<()> {
-    let pivot = found.pivot.0;
-    let figure = found.row.figure.0;
-    print!(rt; "(")?;
-    for (m, weight) in found.row.weights.iter().take(members).enumerate() {
-        let code = weight.0;
-        if m > 0 {
-            print!(rt; ", ")?;
-        }
-        print!(rt; "{code}")?;
-    }
-    println!(rt; " : {figure}), pivot {pivot}")
 }
 
 // The rows of a record, and that there is none after the last.
@@ -70,7 +45,11 @@ pub(crate) fn rows<F: Field>(rt: &HostRuntime, case: &str, rec: &Record<F>) -> i
     println!(rt; "{case}: rows {rows}")?;
     for k in 0..rows {
         if let Some(found) = rec.row(RowNumber(k)) {
-            row(rt, found, rec.count())?;
+            let row = Row {
+                weights: &found.row.weights[..rec.count()],
+                figure: found.row.figure,
+            };
+            println!(rt; "{row}, pivot {}", found.pivot.0)?;
         }
     }
     match rec.row(RowNumber(rows)) {

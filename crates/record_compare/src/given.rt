@@ -1,67 +1,54 @@
 // The rows that were admitted, each with its figure.
-use crate::dice::Dice;
-use crate::ranks::{Rows, Verdict};
+use crate::ranks::Verdict;
+use crate::rows::{NOBODY, Row};
 use field::{Element, Field};
+use std::alloc::{AllocError, Global};
+use trials::{Dice, figure};
 
-// Rows past those used are 0, with figure 0. The last two stay so.
 #[derive(Clone, Copy)]
-pub(crate) struct Given {
-    pub rows: Rows,
-    figures: [Element; 64],
-    used: usize,
+pub(crate) struct Figured {
+    pub row: Row,
+    pub figure: Element,
 }
 
-// The sum of a table over a row.
-pub(crate) fn sum<F: Field>(row: &[Element; 64], table: &[Element; 64]) -> Element {
-    let mut all = Element(0);
-    for m in 0..64 {
-        all = F::add(all, F::mul(row[m], table[m]));
-    }
-    all
+#[derive(Drop)]
+pub(crate) struct Given {
+    taken: Vec<Figured>,
 }
 
 impl Given {
-    pub(crate) fn nothing() -> Given {
+    pub(crate) fn nothing(heap: Global) -> Given {
         Given {
-            rows: [[Element(0); 64]; 64],
-            figures: [Element(0); 64],
-            used: 0,
+            taken: Vec::new(heap),
         }
+    }
+
+    pub(crate) fn rows(&self) -> &[Figured] {
+        self.taken.as_slice()
     }
 
     // Takes a row with its figure, where it is one to be admitted.
-    pub(crate) fn take(&mut self, verdict: Verdict, row: &[Element; 64], figure: Element) {
-        match verdict {
-            Verdict::Fixed | Verdict::Free => {
-                if self.used < 62 {
-                    self.rows[self.used] = *row;
-                    self.figures[self.used] = figure;
-                    self.used += 1;
-                }
-            }
-            Verdict::NamesNobody | Verdict::Pinning(_) => {}
+    pub(crate) fn take(&mut self, verdict: Verdict, figured: Figured) -> Result<(), AllocError> {
+        if matches!(verdict, Verdict::Fixed | Verdict::Free) {
+            self.taken.push(figured)?;
         }
+        Ok(())
     }
 
     // Each row taken 0 times, once or twice: a row that these rows fix.
-    pub(crate) fn mixed<F: Field>(&self, dice: &mut Dice) -> [Element; 64] {
-        let mut mix = [Element(0); 64];
-        for a in 0..self.used.min(64) {
+    pub(crate) fn mixed<F: Field>(&self, dice: &mut Dice) -> Row {
+        let mut mix = NOBODY;
+        for figured in &self.taken {
             let factor = Element(dice.roll(3));
-            for m in 0..64 {
-                mix[m] = F::add(mix[m], F::mul(factor, self.rows[a][m]));
+            for (sum, weight) in mix.iter_mut().zip(figured.row.iter()) {
+                *sum = F::add(*sum, F::mul(factor, *weight));
             }
         }
         mix
     }
 
     // Whether a table has the figure of each row.
-    pub(crate) fn fits<F: Field>(&self, table: &[Element; 64]) -> bool {
-        for a in 0..64 {
-            if sum::<F>(&self.rows[a], table).0 != self.figures[a].0 {
-                return false;
-            }
-        }
-        true
+    pub(crate) fn fits<F: Field>(&self, table: &Row) -> bool {
+        self.taken.iter().all(|figured| figure::<F>(&figured.row, table) == figured.figure)
     }
 }

@@ -5,10 +5,10 @@ use amounts::Amounts;
 use std::io;
 use ticks::Ticks;
 
-mod dice;
 mod given;
 mod ranks;
 mod round;
+mod rows;
 mod tally;
 
 use round::Play;

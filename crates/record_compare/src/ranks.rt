@@ -1,10 +1,12 @@
 // The plain way to judge a row: ranks of lists of rows, each by elimination from scratch.
-ghost use Rattle.std.specs.Prelude.{◌<◌, ◌≤◌, IfSome};
+ghost use Rattle.std.specs.Prelude.{◌<◌};
 
+use crate::given::Figured;
+use crate::rows::{NOBODY, Row, alone};
 use field::{Element, Field};
-
-// 64 rows of 64 weights. Rows of 0 change no rank.
-pub(crate) type Rows = [[Element; 64]; 64];
+use refusal::Member;
+use std::alloc::{AllocError, Global};
+use std::array;
 
 // How a row stands to the rows before it.
 #[derive(Clone, Copy)]
@@ -12,49 +14,30 @@ pub(crate) enum Verdict {
     NamesNobody,
     Fixed,
     // The lowest member that would be pinned.
-    Pinning(usize),
+    Pinning(Member),
     Free,
 }
 
-// The first row from `from` on that names member `m`.
-fn naming(rows: &Rows, from: usize, m: usize) -> Option<usize>
-    requires { m < 64 }
-    ensures { IfSome result (λ a. (from ≤ a) × (a < 64)) }
-{
-    for a in from..64 {
-        if rows[a][m].0 != 0 {
-            return Some(a);
-        }
-    }
-    None
-}
-
 // Takes that multiple of `by` from a row which leaves 0 at member `m`.
-fn without<F: Field>(row: &[Element; 64], by: &[Element; 64], m: usize) -> [Element; 64]
+fn without<F: Field>(row: &Row, by: &Row, m: usize) -> Row
     requires { m < 64 }
 {
     let factor = F::mul(row[m], F::inv(by[m]));
-    let mut less = *row;
-    for k in 0..64 {
-        less[k] = F::add(row[k], F::neg(F::mul(factor, by[k])));
-    }
-    less
+    array::from_fn(|k| F::add(row[k], F::neg(F::mul(factor, by[k]))))
 }
 
 // How many rows are left when each in turn has been taken from those after it.
-fn rank<F: Field>(mut rows: Rows, n: usize) -> usize
-    requires { n ≤ 64 }
-{
+fn rank<F: Field>(rows: &mut [Row]) -> usize {
     let mut rank = 0;
-    for m in 0..n {
-        if let Some(a) = naming(&rows, rank, m) {
-            let pivot = rows[a];
-            rows[a] = rows[rank];
-            rows[rank] = pivot;
+    for m in 0..64 {
+        let naming = rows.iter().skip(rank).position(|row| row[m] != Element(0));
+        if let Some(after) = naming {
+            rows.swap(rank, rank + after);
+            let pivot = rows[rank];
             rank += 1;
-            for b in rank..64 {
-                if rows[b][m].0 != 0 {
-                    rows[b] = without::<F>(&rows[b], &pivot, m);
+            for row in rows.iter_mut().skip(rank) {
+                if row[m] != Element(0) {
+                    *row = without::<F>(row, &pivot, m);
                 }
             }
         }
@@ -62,48 +45,38 @@ fn rank<F: Field>(mut rows: Rows, n: usize) -> usize
     rank
 }
 
-// The rank of some rows, of which the last two are put in here.
+// The rank of the rows given, and of more.
 pub(crate) fn rank_with<F: Field>(
-    rows: &Rows,
-    row: &[Element; 64],
-    other: &[Element; 64],
-    n: usize,
-) -> usize
-    requires { n ≤ 64 }
-{
-    let mut more = *rows;
-    more[62] = *row;
-    more[63] = *other;
-    rank::<F>(more, n)
-}
-
-fn names_nobody(row: &[Element; 64]) -> bool {
-    for weight in row {
-        if weight.0 != 0 {
-            return false;
-        }
+    heap: Global,
+    given: &[Figured],
+    more: &[Row],
+) -> Result<usize, AllocError> {
+    let mut rows = Vec::new(heap);
+    for figured in given {
+        rows.push(figured.row)?;
     }
-    true
+    rows.extend_from_slice(more)?;
+    Ok(rank::<F>(rows.as_mut_slice()))
 }
 
 // A row is fixed if it adds nothing to the rank, and a member is pinned if its row alone then adds nothing.
-pub(crate) fn plain_verdict<F: Field>(rows: &Rows, row: &[Element; 64], n: usize) -> Verdict
-    requires { n ≤ 64 }
-{
-    let nobody = [Element(0); 64];
-    if names_nobody(row) {
-        return Verdict::NamesNobody;
+pub(crate) fn plain_verdict<F: Field>(
+    heap: Global,
+    given: &[Figured],
+    row: &Row,
+    n: usize,
+) -> Result<Verdict, AllocError> {
+    if *row == NOBODY {
+        return Ok(Verdict::NamesNobody);
     }
-    let after = rank_with::<F>(rows, row, &nobody, n);
-    if after == rank_with::<F>(rows, &nobody, &nobody, n) {
-        return Verdict::Fixed;
+    let after = rank_with::<F>(heap, given, &[*row])?;
+    if after == rank_with::<F>(heap, given, &[])? {
+        return Ok(Verdict::Fixed);
     }
     for i in 0..n {
-        let mut alone = nobody;
-        alone[i] = Element(1);
-        if after == rank_with::<F>(rows, row, &alone, n) {
-            return Verdict::Pinning(i);
+        if after == rank_with::<F>(heap, given, &[*row, alone(i)])? {
+            return Ok(Verdict::Pinning(Member(i)));
         }
     }
-    Verdict::Free
+    Ok(Verdict::Free)
 }

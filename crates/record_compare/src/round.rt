@@ -1,15 +1,16 @@
 // Rounds: in each, rows are given to a new record, one after another.
 ghost use Rattle.std.specs.Prelude.{◌<◌, ◌≤◌};
-ghost use Rattle.record.specs.Records.{Sound};
 
-use crate::dice::Dice;
-use crate::given::{Given, sum};
+use crate::given::{Figured, Given};
 use crate::ranks::{plain_verdict, rank_with};
+use crate::rows::{NOBODY, Row, generated};
 use crate::tally::{Tally, admitted_alike, judged_alike};
 use field::{Element, Field};
 use record::{Record, Room};
 use refusal::Member;
-use std::io;
+use std::alloc::{AllocError, Global};
+use std::{array, io};
+use trials::{Dice, figure};
 
 // Rows are generated over `reach` of the members, which each round places anew.
 #[derive(Clone, Copy)]
@@ -23,51 +24,36 @@ pub(crate) struct Play {
 }
 
 // Whether a witness of the record has its element at its member, and fits all the rows given.
-fn witness_fits<F: Field>(
-    rec: &Record<F>,
-    given: &Given,
-    n: usize,
-    member: usize,
-    element: Element,
-) -> bool
-    requires sound { Sound F.model rec.now }
-    requires few { n ≤ 64 }
-    requires member { member < n }
+fn witness_fits<F: Field>(rec: &Record<F>, given: &Given, member: usize, element: Element) -> bool
+    requires member { member < 64 }
 {
-    let mut table = [Element(0); 64];
-    if rec
-        .witness(Member(member), element, &mut table[0..n])
-        .is_err()
-    {
-        return false;
-    }
-    table[member].0 == element.0 && given.fits::<F>(&table)
+    let mut table = NOBODY;
+    rec.witness(Member(member), element, &mut table[..rec.count()])
+        .is_ok()
+        && table[member] == element
+        && given.fits::<F>(&table)
 }
 
 // Gives the record one row; whether all that it answers is as it should be.
 fn give<F: Field>(
+    heap: Global,
     rec: &mut Record<F>,
     given: &mut Given,
-    row: &[Element; 64],
-    figure: Element,
-    n: usize,
+    figured: Figured,
     tally: &mut Tally,
-) -> bool
-    requires sound { Sound F.model rec.old }
-    requires few { n ≤ 64 }
-    ensures { Sound F.model rec.new }
+) -> Result<bool, AllocError>
 {
-    let nobody = [Element(0); 64];
-    let expected = plain_verdict::<F>(&given.rows, row, n);
-    let judged = rec.judge(&row[0..n]);
-    let admitted = rec.admit(&row[0..n], figure);
-    given.take(expected, row, figure);
-    let rank = rank_with::<F>(&given.rows, &nobody, &nobody, n);
+    let Figured { row, figure } = figured;
+    let n = rec.count();
+    let expected = plain_verdict::<F>(heap, given.rows(), &row, n)?;
+    let judged = rec.judge(&row[..n]);
+    let admitted = rec.admit(&row[..n], figure);
+    given.take(expected, figured)?;
     let agree = judged_alike(expected, figure, judged)
         && admitted_alike(expected, admitted)
-        && rec.row_count() == rank;
+        && rec.row_count() == rank_with::<F>(heap, given.rows(), &[])?;
     tally.row(expected, agree);
-    agree
+    Ok(agree)
 }
 
 fn round<F: Field>(
@@ -77,24 +63,25 @@ fn round<F: Field>(
     play: Play,
     tally: &mut Tally,
 ) -> io::Result<()>
-    requires { Sound F.model rec.old }
 {
-    let n = play.members as usize;
     let start = dice.roll(play.members - play.reach + 1);
-    let table = dice.table::<F>();
-    let mut given = Given::nothing();
+    let table: Row = array::from_fn(|_| dice.element::<F>());
+    let mut given = Given::nothing(rt.alloc());
     for k in 0..play.rows {
         let row = if dice.roll(4) == 0 {
             given.mixed::<F>(dice)
         } else {
-            dice.row::<F>(start, play.reach)
+            generated::<F>(dice, start, play.reach)
         };
-        let figure = sum::<F>(&row, &table);
-        if !give(rec, &mut given, &row, figure, n, tally) {
+        let figured = Figured {
+            row,
+            figure: figure::<F>(&row, &table),
+        };
+        if !give(rt.alloc(), rec, &mut given, figured, tally)? {
             println!(rt; "row {k} of a round: the two differ")?;
         }
         let member = dice.roll(play.members) as usize;
-        if witness_fits(rec, &given, n, member, dice.element::<F>()) {
+        if witness_fits(rec, &given, member, dice.element::<F>()) {
             tally.witness();
         }
     }
@@ -103,8 +90,8 @@ fn round<F: Field>(
 
 // All the rounds over one field, and what came of them.
 pub(crate) fn all<F: Field>(rt: &HostRuntime, field: &str, play: Play) -> io::Result<()> {
-    let mut dice = Dice(u64::from(F::kind()));
-    let mut tally = Tally::nothing();
+    let mut dice = Dice::new(u64::from(F::kind()));
+    let mut tally = Tally::default();
     for _ in 0..play.rounds {
         let mut rec = Record::<F>::new(Room::new(rt.alloc())?, play.members as usize);
         round(rt, &mut dice, &mut rec, play, &mut tally)?;

@@ -4,8 +4,9 @@ use field::Element;
 use record::{Admission, Judgement};
 use refusal::{Refusal, Site};
 use std::io;
+use trials::count_one;
 
-#[derive(Clone, Copy)]
+#[derive(Clone, Copy, Default)]
 pub(crate) struct Tally {
     rows: usize,
     agree: usize,
@@ -24,8 +25,8 @@ pub(crate) fn judged_alike(
 ) -> bool {
     match (verdict, judged) {
         (Verdict::NamesNobody, Err(Refusal::NoMemberNamed(Site::Nothing))) => true,
-        (Verdict::Fixed, Ok(Judgement::Fixed(told))) => told.0 == figure.0,
-        (Verdict::Pinning(i), Ok(Judgement::Pinning(member))) => member.0 == i,
+        (Verdict::Fixed, Ok(Judgement::Fixed(told))) => told == figure,
+        (Verdict::Pinning(pinned), Ok(Judgement::Pinning(member))) => member == pinned,
         (Verdict::Free, Ok(Judgement::Free)) => true,
         _ => false,
     }
@@ -36,61 +37,40 @@ pub(crate) fn admitted_alike(verdict: Verdict, admitted: Result<Admission, Refus
     match (verdict, admitted) {
         (Verdict::NamesNobody, Err(Refusal::NoMemberNamed(Site::Nothing))) => true,
         (Verdict::Fixed, Ok(Admission::Kept)) => true,
-        (Verdict::Pinning(i), Err(Refusal::Discloses(Site::OfMember(member)))) => member.0 == i,
+        (Verdict::Pinning(i), Err(Refusal::Discloses(site))) => site == Site::OfMember(i),
         (Verdict::Free, Ok(Admission::Joined)) => true,
         _ => false,
     }
 }
 
-fn one_more(count: &mut usize) {
-    *count = count.saturating_add(1);
-}
-
 impl Tally {
-    pub(crate) fn nothing() -> Tally {
-        Tally {
-            rows: 0,
-            agree: 0,
-            nobody: 0,
-            fixed: 0,
-            pinning: 0,
-            free: 0,
-            witnesses: 0,
-        }
-    }
-
     // A row, and whether the two agree on it.
     pub(crate) fn row(&mut self, verdict: Verdict, agree: bool) {
-        one_more(&mut self.rows);
+        count_one(&mut self.rows);
         if agree {
-            one_more(&mut self.agree);
+            count_one(&mut self.agree);
         }
         match verdict {
-            Verdict::NamesNobody => one_more(&mut self.nobody),
-            Verdict::Fixed => one_more(&mut self.fixed),
-            Verdict::Pinning(_) => one_more(&mut self.pinning),
-            Verdict::Free => one_more(&mut self.free),
+            Verdict::NamesNobody => count_one(&mut self.nobody),
+            Verdict::Fixed => count_one(&mut self.fixed),
+            Verdict::Pinning(_) => count_one(&mut self.pinning),
+            Verdict::Free => count_one(&mut self.free),
         }
     }
 
     // A witness that fits.
     pub(crate) fn witness(&mut self) {
-        one_more(&mut self.witnesses);
+        count_one(&mut self.witnesses);
     }
 
     pub(crate) fn show(&self, rt: &HostRuntime, field: &str, members: usize) -> io::Result<()> {
-        let Tally {
-            rows,
-            agree,
-            nobody,
-            fixed,
-            pinning,
-            free,
-            witnesses,
-        } = *self;
         println!(rt;
-            "{field}, {members} members: {rows} rows, {agree} agree, {witnesses} witnesses fit"
+            "{field}, {members} members: {} rows, {} agree, {} witnesses fit",
+            self.rows, self.agree, self.witnesses,
         )?;
-        println!(rt; "  {free} free, {fixed} fixed, {pinning} pinning, {nobody} naming nobody")
+        println!(rt;
+            "  {} free, {} fixed, {} pinning, {} naming nobody",
+            self.free, self.fixed, self.pinning, self.nobody,
+        )
     }
 }

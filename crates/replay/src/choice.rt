@@ -1,5 +1,5 @@
 // The field that a table file is read in.
-ghost use Rattle.std.specs.Prelude.{◌≡◌, IfOk, slice_index};
+ghost use Rattle.std.specs.Prelude.{IfOk};
 ghost use Rattle.survey_job.specs.Jobs.{Printed};
 ghost use Rattle.replay.specs.Choice.{chosen_field};
 
@@ -9,21 +9,11 @@ use std::alloc::{AllocError, Global};
 use survey_job::{Job, run_job};
 use ticks::Ticks;
 
-// The kind byte, and 0 where there is none.
-fn kind_byte(table: &[u8]) -> u8
-    ensures { result ≡ slice_index table.now 0 }
-{
-    match table.first() {
-        Some(kind) => *kind,
-        None => 0,
-    }
-}
-
 // Does the job in the field that the kind byte chooses. Any kind but that of ticks, and none, is taken as amounts.
 pub(crate) fn run(heap: Global, table: &[u8], text: &[u8]) -> Result<Job, AllocError>
     ensures { IfOk result (λ j. Printed (chosen_field table.now) table.now text.now j.printed.items j.log.items) }
 {
-    if kind_byte(table) == Ticks::kind() {
+    if table.first() == Some(&Ticks::kind()) {
         run_job::<Ticks>(heap, table, text)
     } else {
         run_job::<Amounts>(heap, table, text)

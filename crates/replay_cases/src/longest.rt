@@ -4,6 +4,7 @@ use crate::replays::Case;
 use amounts::Amounts;
 use field::Element;
 use std::alloc::{AllocError, Global};
+use std::fmt::Write;
 use std::io;
 
 const ONES: [Element; 64] = [Element(1); 64];
@@ -12,8 +13,7 @@ const ONES: [Element; 64] = [Element(1); 64];
 fn weighted(heap: Global) -> Result<String, AllocError> {
     let mut text = String::from_str(heap, "a")?;
     for m in 0..64 {
-        let item = format!(in heap; " {m}:65520")?;
-        text.push_str(item.as_str())?;
+        write!(text, " {m}:65520")?;
     }
     text.push_str("\n")?;
     Ok(text)
@@ -23,8 +23,7 @@ fn weighted(heap: Global) -> Result<String, AllocError> {
 fn apart(heap: Global) -> Result<String, AllocError> {
     let mut text = String::new(heap);
     for m in 0..63 {
-        let line = format!(in heap; "a {m} 63:65520\n")?;
-        text.push_str(line.as_str())?;
+        writeln!(text, "a {m} 63:65520")?;
     }
     for _ in 63..9999 {
         text.push_str("#\n")?;
@@ -36,25 +35,15 @@ fn apart(heap: Global) -> Result<String, AllocError> {
 // A row of 139 bytes, for which there are 139.
 fn longest_row(rt: &HostRuntime) -> io::Result<()> {
     let text = weighted(rt.alloc())?;
-    let case = Case {
-        name: "the longest row in the log",
-        text: text.as_bytes(),
-        answers: 392,
-        log: 141,
-    };
-    replays::fresh::<Amounts>(rt, &ONES, case)
+    let case = Case("the longest row in the log", text.as_bytes(), 392, 141);
+    replays::over::<Amounts>(rt, &ONES, &[case])
 }
 
 // 432 bytes of answers, and then a line of 392 bytes, for which there are 392.
 fn longest_line(rt: &HostRuntime) -> io::Result<()> {
     let text = apart(rt.alloc())?;
-    let case = Case {
-        name: "the longest line of answers",
-        text: text.as_bytes(),
-        answers: 824,
-        log: 2000,
-    };
-    replays::fresh::<Amounts>(rt, &ONES, case)
+    let case = Case("the longest line of answers", text.as_bytes(), 824, 2000);
+    replays::over::<Amounts>(rt, &ONES, &[case])
 }
 
 pub(crate) fn run(rt: &HostRuntime) -> io::Result<()> {

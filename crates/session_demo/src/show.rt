@@ -1,65 +1,67 @@
 // How calls and their replies are shown.
 use field::Element;
-use refusal::Refusal;
 use session::{Call, Reply};
-use std::io;
+use shown::{Listed, Refused};
+use std::fmt;
 
 // The named members of a row, each with its weight unless that is 1.
-fn row(rt: &HostRuntime, weights: &[Element]) -> io::Result<()> {
-    for (m, weight) in weights.iter().enumerate() {
-        let code = weight.0;
-        if code == 1 {
-            print!(rt; " {m}")?;
-        } else if code > 1 {
-            print!(rt; " {m}:{code}")?;
-        }
-    }
-    print!(rt; ": ")
-}
+#[derive(Clone, Copy)]
+struct Named<'a>(&'a [Element]);
 
-pub(crate) fn call(rt: &HostRuntime, call: &Call) -> io::Result<()> {
-    match call {
-        Call::Submit(weights) => {
-            print!(rt; "submit")?;
-            row(rt, weights)
+impl fmt::Display for Named<'_> {
+    fn fmt<W: fmt::Write>(&self, f: &mut fmt::Formatter<W>) -> fmt::Result {
+        for (m, weight) in self.0.iter().enumerate() {
+            match weight.0 {
+                0 => {}
+                1 => write!(f, " {m}")?,
+                code => write!(f, " {m}:{code}")?,
+            }
         }
-        Call::Answer(number) => print!(rt; "answer {number}: "),
-        Call::Withdraw(number) => print!(rt; "withdraw {number}: "),
-        Call::Witness(member, element, _) => {
-            let m = member.0;
-            let code = element.0;
-            print!(rt; "witness of {m} at {code}: ")
-        }
+        Ok(())
     }
 }
 
-pub(crate) fn refused(rt: &HostRuntime, refusal: Refusal) -> io::Result<()> {
-    let number = refusal.number();
-    let detail = refusal.detail();
-    println!(rt; "refused by {number} with {detail}")
-}
+// A call of a list.
+#[derive(Clone, Copy)]
+pub(crate) struct Asked<'a>(pub &'a Call<'a>);
 
-// The first elements of a filled buffer.
-fn filled(rt: &HostRuntime, out: &[Element], members: usize) -> io::Result<()> {
-    for (m, e) in out.iter().take(members).enumerate() {
-        let code = e.0;
-        if m > 0 {
-            print!(rt; " ")?;
+impl fmt::Display for Asked<'_> {
+    fn fmt<W: fmt::Write>(&self, f: &mut fmt::Formatter<W>) -> fmt::Result {
+        match self.0 {
+            Call::Submit(weights) => {
+                let named = Named(weights);
+                write!(f, "submit{named}")
+            }
+            Call::Answer(number) => write!(f, "answer {number}"),
+            Call::Withdraw(number) => write!(f, "withdraw {number}"),
+            Call::Witness(member, element, _) => {
+                write!(f, "witness of {} at {}", member.0, element.0)
+            }
         }
-        print!(rt; "{code}")?;
     }
-    println!(rt; "")
 }
 
-pub(crate) fn reply(rt: &HostRuntime, reply: &Reply, members: usize) -> io::Result<()> {
-    match reply {
-        Reply::Permits(number) => println!(rt; "permit {number}"),
-        Reply::Gives(figure) => {
-            let code = figure.0;
-            println!(rt; "{code}")
+// The reply to a call, where a filled buffer counts for so many members.
+#[derive(Clone, Copy)]
+pub(crate) struct Replied<'a> {
+    pub reply: &'a Reply,
+    pub members: usize,
+}
+
+impl fmt::Display for Replied<'_> {
+    fn fmt<W: fmt::Write>(&self, f: &mut fmt::Formatter<W>) -> fmt::Result {
+        match self.reply {
+            Reply::Permits(number) => write!(f, "permit {number}"),
+            Reply::Gives(figure) => write!(f, "{}", figure.0),
+            Reply::TakenBack => f.write_str("taken back"),
+            Reply::Fills(out) => {
+                let filled = Listed {
+                    elements: &out[..self.members.min(out.len())],
+                    between: " ",
+                };
+                write!(f, "{filled}")
+            }
+            Reply::Refuses(refusal) => write!(f, "{}", Refused(*refusal)),
         }
-        Reply::TakenBack => println!(rt; "taken back"),
-        Reply::Fills(out) => filled(rt, out, members),
-        Reply::Refuses(refusal) => refused(rt, *refusal),
     }
 }

@@ -1,49 +1,10 @@
 -- Answers for `put_pair`: the mark, then the numbers.
 use Rattle.std.proofs.Common.{[], ◌∷◌, ◌++◌, decimal, sym, ap, arith}
 use Rattle.std.proofs.lemmas.List.{append-nil}
-use Rattle.buffer.proofs.Fronts.{same_length, part_length, front_byte, front-put, front_all}
+use Rattle.buffer.proofs.Fronts.{front_byte, front-put, front_all}
 use Rattle.answer_text.specs.AnswerLines.{after_space, spaced}
 use Rattle.answer_text.proofs.Texts.{two_length}
 use Rattle.answer_text.proofs.pairs.put_pair.Goals as goal
-
-pub put_spaced-at-requires : goal.put_spaced-at-requires
-put_spaced-at-requires c =
-    let two = two_length c.args.first c.args.second in
-    let marked = front_byte c.args.out.now c.args.mark (omega (arith, c.requires)) in
-    omega (arith, c.requires, part_length _ _ _ 1 marked)
-
-pub overflow_add-at : goal.overflow_add-at
-overflow_add-at c =
-    let two = two_length c.args.first c.args.second in
-    omega (arith, c.requires, c.put_spaced-at.ensures.count)
-
-pub slice_bounds-put_spaced-count-2 : goal.slice_bounds-put_spaced-count-2
-slice_bounds-put_spaced-count-2 c =
-    let two = two_length c.args.first c.args.second in
-    let marked = front_byte c.args.out.now c.args.mark (omega (arith, c.requires)) in
-    let half = front-put _ _ _ 1 marked (after_space c.args.first) c.put_spaced-at.new.out c.put_spaced-at.result c.put_spaced-at.ensures (omega (arith, c.requires)) in
-    omega (arith, same_length _ _ _ _ half, half.within)
-
-pub slice_bounds-put_spaced-start-2 : goal.slice_bounds-put_spaced-start-2
-slice_bounds-put_spaced-start-2 c =
-    let two = two_length c.args.first c.args.second in
-    let marked = front_byte c.args.out.now c.args.mark (omega (arith, c.requires)) in
-    let half = front-put _ _ _ 1 marked (after_space c.args.first) c.put_spaced-at.new.out c.put_spaced-at.result c.put_spaced-at.ensures (omega (arith, c.requires)) in
-    let same = same_length _ _ _ _ half in
-    let within = half.within in
-    omega arith
-
-pub put_spaced-requires : goal.put_spaced-requires
-put_spaced-requires c =
-    let two = two_length c.args.first c.args.second in
-    let marked = front_byte c.args.out.now c.args.mark (omega (arith, c.requires)) in
-    let half = front-put _ _ _ 1 marked (after_space c.args.first) c.put_spaced-at.new.out c.put_spaced-at.result c.put_spaced-at.ensures (omega (arith, c.requires)) in
-    omega (arith, c.requires, part_length _ _ _ _ half, c.put_spaced-at.ensures.count)
-
-pub overflow_add-result : goal.overflow_add-result
-overflow_add-result c =
-    let two = two_length c.args.first c.args.second in
-    omega (arith, c.requires, c.put_spaced-at.ensures.count, c.put_spaced.ensures.count)
 
 pub returns : goal.returns
 returns c =

@@ -5,11 +5,6 @@ use Rattle.buffer.proofs.Fronts.{front_of_put, front-set, front_all}
 use Rattle.answer_text.specs.AnswerLines.{spaced, newline}
 use Rattle.answer_text.proofs.pairs.write_pair.Goals as goal
 
-pub returns-then-out-pair_length : goal.returns-then-out-pair_length
-returns-then-out-pair_length c =
-    let all = length-append (spaced (c.args.first ∷ c.args.second ∷ [])) newline in
-    (omega (arith, c.pair_length.ensures.is), refl)
-
 pub returns : goal.returns
 returns c =
     let text = c.args.mark ∷ spaced (c.args.first ∷ c.args.second ∷ []) in
