@@ -63,7 +63,7 @@ impl Field for Amounts {
         reduced(u64::from(SIZE - a.0 % SIZE))
     }
 
-    // Each turn keeps `a` times `factor` equal to `rest`, modulo the size, until `rest` is 1.
+    // Each turn keeps `a` times `factor` equal to `rest`, modulo the size, until `rest` is 1: steps with no list to walk.
     fn inv(a: Element) -> Element {
         let mut factor = Element(1);
         let mut rest = a.0 % SIZE;

@@ -27,6 +27,7 @@ pub trait Field {
     fn size() -> u32
         ensures { result ≡ model.size };
 
+    // The first byte of a table file and of a log: the formats have numbers for the kinds.
     fn kind() -> u8
         ensures { result ≡ model.kind };
 

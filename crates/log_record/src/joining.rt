@@ -25,7 +25,7 @@ pub(crate) fn join_row<F: Field>(
 {
     match held.judge(weights).unwrap() {
         Judgement::Pinning(_) => Err(Refusal::Discloses(Site::OfRow(row))),
-        Judgement::Fixed(known) if known.0 != figure.0 => Err(Refusal::OtherFigure(row)),
+        Judgement::Fixed(known) if known != figure => Err(Refusal::OtherFigure(row)),
         Judgement::Fixed(_) => Ok(()),
         Judgement::Free => {
             held.admit(weights, figure).unwrap();

@@ -13,7 +13,8 @@ use field::Field;
 use record::{Record, Room};
 use refusal::{LogRow, Refusal};
 
-// A log as it was read: the record of its rows, or why it was refused. The record is then empty.
+// A log as it was read: the record of its rows, and why it was refused, if it was. The record is then empty. No Result:
+// there is a record in either case.
 #[derive(Drop)]
 pub struct ReadLog<F: Field> {
     pub record: Record<F>,

@@ -6,7 +6,7 @@ use refusal::Member;
 #[derive(Clone, Copy)]
 pub struct RowNumber(pub usize);
 
-// A row with its figure, as elimination works on it.
+// A row with its figure, as elimination works on it. Its memory is fixed, since no step may want any.
 #[derive(Clone, Copy)]
 pub struct FiguredRow {
     pub weights: [Element; 64],

@@ -16,7 +16,7 @@ pub struct LogRow(pub usize);
 #[derive(Clone, Copy, PartialEq, Eq, Debug)]
 pub struct BytePlace(pub usize);
 
-// What a refusal points at.
+// What a refusal points at. No Option: it points at either of two sorts of number, and often at neither.
 #[derive(Clone, Copy, PartialEq, Eq, Debug)]
 pub enum Site {
     Nothing,
@@ -72,7 +72,7 @@ pub enum Refusal {
 }
 
 impl Refusal {
-    // The number that the rules give this refusal.
+    // The number that the rules give this refusal, and that is printed.
     pub fn number(&self) -> u8
         ensures { result ≡ number self.now }
     {

@@ -10,6 +10,6 @@ pub enum Outcome {
     Answered(Weights, Element),
     // The row was submitted, granted and withdrawn.
     Granted,
-    // The witness table, 0 from the count on.
+    // The witness table, 0 from the count on; no Vec, since a line wants no memory.
     Filled([Element; 64]),
 }

@@ -1,4 +1,5 @@
-// The permit to have a row answered. It must be answered or withdrawn: only a spent one may be dropped.
+// The permit to have a row answered. It must be answered or withdrawn: only a spent one may be dropped, which `drop` can
+// ask of a flag alone.
 ghost use Rattle.std.specs.Prelude.{◌≡◌, true, false};
 
 pub struct Permit {

@@ -16,6 +16,7 @@ pub fn minus<F: Field>(a: Element, b: Element) -> Element
     F::add(a, F::neg(b))
 }
 
+// `few` stays a clause of each: a type for the count would be unwrapped at every use of it.
 impl FiguredRow {
     // Takes away that multiple of `by` which leaves 0 at its pivot, over the first `n` members.
     pub(crate) fn clear<F: Field>(&mut self, by: &RecordRow, n: usize)

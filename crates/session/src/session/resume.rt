@@ -12,7 +12,8 @@ use record::Room;
 use refusal::Refusal;
 use server::Server;
 
-// A session, and why its log was refused, if it was. It then has an empty record, and all its permits are issued.
+// A session, and why its log was refused, if it was. It then has an empty record, and all its permits are issued. No
+// Result: there is a session in either case.
 #[derive(Drop)]
 pub struct Resumed<S: Server> {
     pub session: Session<S>,

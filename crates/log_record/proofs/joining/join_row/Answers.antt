@@ -1,5 +1,5 @@
 -- Answers for `join_row`: what the record says of the row, in terms of the rows before.
-use Rattle.std.proofs.Common.{refl, subst, arith}
+use Rattle.std.proofs.Common.{rules, refl, subst}
 use Rattle.field.specs.Sums.{weights_of}
 use Rattle.record.specs.Judged.{Judged}
 use Rattle.record.specs.Records.{rec_of}
@@ -35,7 +35,7 @@ returns-in-Fixed g c =
       kept = refl;
       joins = λ before B.
           fixed_otherwise M g.met.F.Field.laws _ c.args.row before _ B c.args.weights.now c.requires.checked c.args.figure.0 c.in-Fixed.known
-          (subst (Judged M _ _ _) c.in-Fixed.is (judged g (goal.at.returns-in-Fixed g c).After-unwrap)) (λ e. omega (arith, c.if-known-figure.true));
+          (subst (Judged M _ _ _) c.in-Fixed.is (judged g (goal.at.returns-in-Fixed g c).After-unwrap)) (λ e. search (rules, c.if-ne.ensures, e));
     }
 
 pub returns-in-Fixed-2 : goal.returns-in-Fixed-2
@@ -46,7 +46,7 @@ returns-in-Fixed-2 g c =
       kept = tt;
       joins = λ before B.
           fixed_so M g.met.F.Field.laws _ c.args.row before _ B c.args.weights.now c.requires.checked c.args.figure.0 c.in-Fixed.known
-          (subst (Judged M _ _ _) c.in-Fixed.is (judged g (goal.at.returns-in-Fixed-2 g c).After-unwrap)) (omega (arith, c.if-known-figure.false));
+          (subst (Judged M _ _ _) c.in-Fixed.is (judged g (goal.at.returns-in-Fixed-2 g c).After-unwrap)) (search (rules, c.if-ne.ensures));
     }
 
 judged-free :
