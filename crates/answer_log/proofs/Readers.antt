@@ -1,16 +1,20 @@
 -- What the code reads of a row, in the words of the specification. Assumes nothing.
-use Rattle.std.proofs.Common.{◌≡◌, ℕ, ◌+◌, ◌-◌, ◌*◌, ◌<◌, ◌≤◌, min, Bool, true, false, cond, List, length, get_or, take, drop, Some, None, Option, MatchOption, is_some, sym, ap, ◌∙◌, subst, ap₂, inl, inr, ⊎_elim, true≢false, arith}
+use Rattle.std.proofs.Common.{◌≡◌, ℕ, ◌+◌, ◌-◌, ◌*◌, ◌<◌, ◌≤◌, ◌⊎◌, min, Bool, true, false, cond, List, length, get_or, take, drop, Some, None, Option, MatchOption, is_some, sym, ap, ◌∙◌, subst, ap₂, inl, inr, ⊎_elim, true≢false, arith}
 use Rattle.std.proofs.lemmas.List.{take_rest, drop_all, length-drop, get_or-drop}
 use Rattle.std.proofs.lemmas.Bool.{cases_lt, eq-eqb, ne_eqb}
 use Rattle.refusal.specs.declared.LogRow.{LogRow}
-use Rattle.refusal.specs.declared.Refusal.TheVariants.{NotAnElement, StoredZero}
+use Rattle.refusal.specs.declared.Refusal.{Refusal}
+use Rattle.refusal.specs.declared.Refusal.TheVariants.{CountsDiffer}
+use Rattle.refusal.specs.declared.Site.{Site}
 use Rattle.refusal.specs.declared.Site.TheVariants.{OfRow}
 use Rattle.field.specs.Model.{FieldModel}
 use Rattle.field.specs.Bytes.{width}
 use Rattle.field.specs.Sums.{Vector}
+use Rattle.server.specs.Checks.{Lowest}
 use Rattle.member_map.specs.Maps.{map_length_lem, named, named_below, Stray}
 use Rattle.answer_log.specs.Rows.{plain}
-use Rattle.answer_log.specs.Entries.{mark_of, map_of, weighted, weight_place, figure_place, row_length_lem, row_weight, Framed, Faulty, EntryCheck, not_an_element, stored_zero, accepted, Reads, RowAt}
+use Rattle.answer_log.specs.Entries.{mark_of, map_of, weighted, weight_place, figure_place, row_length_lem, row_weight, Framed, Faulty, EntryCheck, not_an_element, stored_zero, accepted, Reads, RowAt, HeaderCheck, no_header, wrong_kind, wrong_count, counts_differ}
+use Rattle.stored.specs.Stored.{count_of, CountCheck, ValueCheck, no_header, wrong_kind, wrong_count, not_an_element, stored_zero, accepted}
 use Rattle.answer_log.proofs.Elements.{some-width}
 use Rattle.answer_log.proofs.Weights.{plain-same, plain_past}
 use Rattle.answer_log.proofs.Again.{again}
@@ -45,6 +49,19 @@ module _ {A : Type 0} (P : Type 0) (Q : A → Type 0) where
   none_given None e h = h
   none_given (Some x) e h = absurd (true≢false e)
 
+-- what the header's check says of a log for a server of n members
+module _ (M : FieldModel) (n : ℕ) (bs : List ℕ) where
+  pub header_refused : (e : Refusal) → CountCheck M bs (Some e) → HeaderCheck M n bs (Some e)
+  header_refused _ (no_header h) = no_header h
+  header_refused _ (wrong_kind h k) = wrong_kind h k
+  header_refused _ (wrong_count h k c) = wrong_count h k c
+
+  pub header_differs : CountCheck M bs None → (count_of bs ≡ n → ⊥) → HeaderCheck M n bs (Some CountsDiffer)
+  header_differs (accepted h) other = counts_differ h.header h.kind h.count other
+
+  pub header_same : CountCheck M bs None → count_of bs ≡ n → HeaderCheck M n bs None
+  header_same (accepted h) same = accepted h.header h.kind (rw (← same) h.count) same
+
 -- the mark, as the code tests it
 pub is_weighted : (bs : List ℕ) (k : ℕ) → k ≡ mark_of bs → k ≡ 1 → weighted bs ≡ true
 is_weighted bs k e one = eq-eqb (mark_of bs) 1 (sym e ∙ one)
@@ -64,8 +81,8 @@ module _ (M : FieldModel) (n : ℕ) (bs : List ℕ) where
   figure_unstored l e el =
       ap (λ x. 1 + x) el ∙ sym (ap (λ b. cond b (weight_place M n bs n) (1 + map_length_lem n)) e)
 
-  pub no_fault : (m : ℕ) → row_weight M n bs m < M.size → (row_weight M n bs m ≡ 0 → ⊥) → Faulty M n bs m → ⊥
-  no_fault m below other f = ⊎_elim (λ past. omega arith) other f.2
+  pub no_fault : (m e : ℕ) (s : Site) → e ≡ row_weight M n bs m → ValueCheck M e s None → Faulty M n bs m → ⊥
+  no_fault m e s code (accepted below stored) f = ⊎_elim (λ past. omega arith) (λ z. stored (code ∙ z)) f.2
 
   pub unnamed_no_fault : (m : ℕ) → named (map_of bs) m ≡ false → Faulty M n bs m → ⊥
   unnamed_no_fault m e f = true≢false (sym f.1 ∙ e)
@@ -73,14 +90,13 @@ module _ (M : FieldModel) (n : ℕ) (bs : List ℕ) where
   -- the lowest fault, at the member that a check stopped at
   module _ (fr : Framed M n bs) (row : LogRow) (m e : ℕ) (h : m < n) (bit : named (map_of bs) m ≡ true)
       (code : e ≡ row_weight M n bs m) (before : (j : ℕ) → j < m → Faulty M n bs j → ⊥) where
-    pub past_size : M.size ≤ e → EntryCheck M n row bs (Some (NotAnElement (OfRow row)))
-    past_size p =
-        let past : M.size ≤ row_weight M n bs m = rw (← code) p in
-        not_an_element fr m (record { holds = (h, bit, inl past); none_below = before }) past
+    lowest : (M.size ≤ row_weight M n bs m) ⊎ (row_weight M n bs m ≡ 0) → Lowest (Faulty M n bs) m
+    lowest why = record { holds = (h, bit, why); none_below = before }
 
-    pub zero_stored : e ≡ 0 → EntryCheck M n row bs (Some (StoredZero (OfRow row)))
-    zero_stored z =
-        stored_zero fr m (record { holds = (h, bit, inr (sym code ∙ z)); none_below = before }) (sym code ∙ z)
+    pub value_refused : (r : Refusal) → ValueCheck M e (OfRow row) (Some r) → EntryCheck M n row bs (Some r)
+    value_refused _ (not_an_element p) =
+        let past : M.size ≤ row_weight M n bs m = rw (← code) p in not_an_element fr m (lowest (inl past)) past
+    value_refused _ (stored_zero below z) = stored_zero fr m (lowest (inr (sym code ∙ z))) (sym code ∙ z)
 
 -- the weights that were read, 0 from the count on, are plain as those of the row are
 pub plain_read :

@@ -1,15 +1,18 @@
 -- A row that passed its checks, and is written. Assumes nothing.
-use Rattle.std.proofs.Common.{◌≡◌, ℕ, ◌<◌, List, ◌++◌, length, drop, None, sym, ap, ◌∙◌, subst, arith}
+use Rattle.std.proofs.Common.{◌≡◌, ℕ, ◌<◌, List, ◌++◌, length, drop, Some, None, Option, MatchResult, sym, ap, ◌∙◌, subst, arith}
+use Rattle.std.specs.Option.{ok_or}
 use Rattle.refusal.specs.declared.LogRow.{LogRow}
+use Rattle.refusal.specs.declared.Refusal.TheVariants.{LogFull}
 use Rattle.field.specs.Model.{FieldModel}
 use Rattle.field.specs.Sums.{Codes, weights_of}
 use Rattle.field.specs.declared.Element.{Element}
 use Rattle.server.specs.Checks.{Count}
 use Rattle.record.specs.Checks.{RowCheck, accepted}
 use Rattle.record.proofs.Weights.{past_end}
-use Rattle.answer_log.specs.Rows.{row_bytes}
+use Rattle.answer_log.specs.Rows.{header_bytes, row_bytes}
 use Rattle.answer_log.specs.Entries.{Reads}
-use Rattle.buffer.specs.Buffers.{Put, onto}
+use Rattle.answer_log.specs.Writes.{HeaderWrite, log_full, accepted}
+use Rattle.buffer.specs.Buffers.{Put, Writes, onto}
 use Rattle.answer_log.proofs.Back.{reads_back}
 
 module _ (M : FieldModel) (n : ℕ) (ws : List Element) where
@@ -46,3 +49,11 @@ module _ (M : FieldModel) (n : ℕ) (ws : List Element) where
             (subst (λ (i : ℕ). Reads M n row (onto bytes before) (weights_of ws) f i) (sym long)
             (checked_reads count fine f below (drop (length bytes) before) row)),
       )
+
+-- a header that is written, or has too little room
+pub header_written :
+    (M : FieldModel) (n : ℕ) → Count n → (before after : List ℕ) (r : Option ℕ) → Writes (header_bytes M n) before after r
+    → MatchResult (ok_or r LogFull) (λ k. HeaderWrite n (length before) None × Put (header_bytes M n) before after k)
+    (λ e. HeaderWrite n (length before) (Some e) × (after ≡ before))
+header_written M n count before after None w = (log_full count w.0, w.1)
+header_written M n count before after (Some k) w = (accepted count w.0, w.1)

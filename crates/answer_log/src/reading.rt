@@ -9,6 +9,8 @@ use crate::parts::is_plain;
 use field::{Element, Field, decode, element_width};
 use member_map::{is_named, map_length, named_count, stray_bit};
 use refusal::{LogRow, Member, Refusal, Site};
+use server::is_count;
+use stored::{check_value, header_count};
 
 // A row as it was read: its weights, 0 from the count on, its figure, and where the next row begins.
 // 64 places and no Vec: the library crates have fixed memory.
@@ -23,16 +25,7 @@ pub struct LogEntry {
 pub fn read_header<F: Field>(bytes: &[u8], n: usize) -> Result<(), Refusal>
     ensures { MatchResult result (λ _. HeaderCheck F.model n bytes.now None) (λ e. HeaderCheck F.model n bytes.now (Some e)) }
 {
-    if bytes.len() < 2 {
-        return Err(Refusal::WrongLength(Site::Nothing));
-    }
-    if bytes[0] != F::kind() {
-        return Err(Refusal::WrongKind);
-    }
-    let count = bytes[1];
-    if count == 0 || count > 64 {
-        return Err(Refusal::WrongCount);
-    }
+    let count = header_count::<F>(bytes)?;
     if usize::from(count) != n {
         return Err(Refusal::CountsDiffer);
     }
@@ -116,13 +109,7 @@ impl RowBytes<'_> {
             let member = Member(usize::from(m));
             if is_named(map, member) {
                 let weight = self.named_weight::<F>(m);
-                if weight.0 >= F::size() {
-                    return Err(Refusal::NotAnElement(Site::OfRow(self.row)));
-                }
-                if weight.0 == 0 {
-                    return Err(Refusal::StoredZero(Site::OfRow(self.row)));
-                }
-                weights[member.0] = weight;
+                weights[member.0] = check_value::<F>(weight, Site::OfRow(self.row))?;
             }
         }
         Ok(weights)
@@ -168,7 +155,7 @@ pub fn read_row<F: Field>(
 ) -> Result<LogEntry, Refusal>
     ensures { MatchResult result (λ e. RowAt F.model n row bytes.now at (weights_of e.weights) e.figure.0 e.next) (λ e. EntryCheck F.model n row (drop at bytes.now) (Some e)) }
 {
-    if n == 0 || n > 64 {
+    if !is_count(n) {
         return Err(Refusal::WrongCount);
     }
     let rest = RowBytes {

@@ -8,24 +8,21 @@ ghost use Rattle.answer_log.specs.Entries.{Reads};
 ghost use Rattle.answer_log.specs.Writes.{HeaderWrite, RowWrite};
 
 use crate::parts::Row;
+use buffer::put_bytes;
 use field::{Element, Field};
 use record::check_row;
 use refusal::{Refusal, Site};
+use server::is_count;
 use std::marker::PhantomData;
 
 // Writes the header of a log of `n` members, and answers how many bytes it has.
 pub fn write_header<F: Field>(n: usize, out: &mut [u8]) -> Result<usize, Refusal>
     ensures { MatchResult result (λ k. HeaderWrite n (length out.old) None × Put (header_bytes F.model n) out.old out.new k) (λ e. HeaderWrite n (length out.old) (Some e) × (out.new ≡ out.old)) }
 {
-    if n == 0 || n > 64 {
+    if !is_count(n) {
         return Err(Refusal::WrongCount);
     }
-    if out.len() < 2 {
-        return Err(Refusal::LogFull);
-    }
-    out[0] = F::kind();
-    out[1] = n as u8;
-    Ok(2)
+    put_bytes(&[F::kind(), n as u8], out).ok_or(Refusal::LogFull)
 }
 
 // Writes a row of `n` weights with its figure, and answers how many bytes it has. Read back, it is the same row.
@@ -37,7 +34,7 @@ pub fn write_row<F: Field>(
 ) -> Result<usize, Refusal>
     ensures { MatchResult result (λ k. RowWrite F.model n weights.now figure.0 (length out.old) None × Put (row_bytes F.model n (weights_of weights.now) figure.0) out.old out.new k × ((row : LogRow) → Reads F.model n row out.new (weights_of weights.now) figure.0 k)) (λ e. RowWrite F.model n weights.now figure.0 (length out.old) (Some e) × (out.new ≡ out.old)) }
 {
-    if n == 0 || n > 64 {
+    if !is_count(n) {
         return Err(Refusal::WrongCount);
     }
     check_row::<F>(weights, n)?;

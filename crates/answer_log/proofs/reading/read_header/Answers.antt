@@ -1,25 +1,18 @@
--- Answers for `read_header`: which check of the header failed.
-use Rattle.std.proofs.Common.{sym, ◌∙◌, ⊎_elim, arith}
-use Rattle.answer_log.specs.Entries.{no_header, wrong_kind, wrong_count, counts_differ, accepted}
+-- Answers for `read_header`: the header's answer, and whether its count is the server's.
+use Rattle.std.proofs.Common.{sym, ◌∙◌, rules}
+use Rattle.answer_log.proofs.Readers.{header_refused, header_differs, header_same}
 use Rattle.answer_log.proofs.reading.read_header.Goals as goal
 
-pub returns-then-bytes-lt2 : goal.returns-then-bytes-lt2
-returns-then-bytes-lt2 g c = no_header (omega arith)
-
-pub returns-then-bytes-kind : goal.returns-then-bytes-kind
-returns-then-bytes-kind g c = wrong_kind (omega arith) (λ e. c.if-bytes-kind.true (e ∙ sym c.kind.ensures))
-
-pub returns-then-count-eq0 : goal.returns-then-count-eq0
-returns-then-count-eq0 g c =
-    wrong_count (omega arith) (c.if-bytes-kind.false ∙ c.kind.ensures)
-    (λ n. ⊎_elim (λ z. omega arith) (λ p. omega arith) c.then-count-eq0.either)
+pub returns-in_err-count : goal.returns-in_err-count
+returns-in_err-count g c =
+    let refused = header_refused g.F.Field.model c.args.n c.args.bytes.now _ c.in_err-count.ensures in search rules
 
 pub returns-then-from-n : goal.returns-then-from-n
 returns-then-from-n g c =
-    counts_differ (omega arith) (c.if-bytes-kind.false ∙ c.kind.ensures) (omega arith, omega arith)
-    (λ e. c.if-from-n.true (c.from.ensures ∙ e))
+    let fine = c.in_ok-count.ensures in
+    header_differs g.F.Field.model c.args.n c.args.bytes.now fine.0 (λ e. c.if-from-n.true (c.from.ensures ∙ fine.1 ∙ e))
 
 pub returns : goal.returns
 returns g c =
-    let same = sym c.from.ensures ∙ c.if-from-n.false in
-    accepted (omega arith) (c.if-bytes-kind.false ∙ c.kind.ensures) (omega arith, omega arith) same
+    let fine = c.in_ok-count.ensures in
+    header_same g.F.Field.model c.args.n c.args.bytes.now fine.0 (sym fine.1 ∙ sym c.from.ensures ∙ c.if-from-n.false)

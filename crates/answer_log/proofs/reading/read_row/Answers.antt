@@ -1,12 +1,13 @@
 -- Answers for `read_row`: the row at the place.
-use Rattle.std.proofs.Common.{ℕ, List, drop, refl, subst, ⊎_elim, arith}
+use Rattle.std.proofs.Common.{ℕ, List, drop, refl, subst}
+use Rattle.std.proofs.lemmas.Bool.Decides.{not_from_Decides}
 use Rattle.field.specs.Sums.{weights_of}
 use Rattle.answer_log.specs.Entries.{wrong_count, Reads}
 use Rattle.answer_log.proofs.Readers.{rest_is, row_at}
 use Rattle.answer_log.proofs.reading.read_row.Goals as goal
 
-pub returns-then-n-eq0 : goal.returns-then-n-eq0
-returns-then-n-eq0 g c = wrong_count (λ n. ⊎_elim (λ z. omega arith) (λ p. omega arith) c.then-n-eq0.either)
+pub returns-then-not-is_count : goal.returns-then-not-is_count
+returns-then-not-is_count g c = wrong_count (not_from_Decides c.is_count.result c.is_count.ensures c.if-not-is_count.true)
 
 pub returns : goal.returns
 returns g c =

@@ -1,24 +1,17 @@
 -- Answers for `write_header`: which check failed, or the two bytes.
-use Rattle.std.proofs.Common.{◌∷◌, get_or, drop, set, refl, ap, ◌∙◌, ⊎_elim, arith}
-use Rattle.std.proofs.lemmas.List.{drop_more}
-use Rattle.answer_log.specs.Writes.{wrong_count, log_full, accepted}
+use Rattle.std.proofs.Common.{refl}
+use Rattle.std.proofs.lemmas.Bool.Decides.{not_from_Decides}
+use Rattle.answer_log.specs.Writes.{wrong_count}
+use Rattle.answer_log.proofs.Writers.{header_written}
 use Rattle.answer_log.proofs.writing.write_header.Goals as goal
 
-pub returns-then-n-eq0 : goal.returns-then-n-eq0
-returns-then-n-eq0 g c = (wrong_count (λ n. ⊎_elim (λ z. omega arith) (λ p. omega arith) c.then-n-eq0.either), refl)
-
-pub returns-then-out-lt2 : goal.returns-then-out-lt2
-returns-then-out-lt2 g c = (log_full (omega arith, omega arith) (omega arith), refl)
+pub returns-then-not-is_count : goal.returns-then-not-is_count
+returns-then-not-is_count g c =
+    (wrong_count (not_from_Decides c.is_count.result c.is_count.ensures c.if-not-is_count.true), refl)
 
 pub returns : goal.returns
 returns g c =
-    let o = c.args.out.now in
-    let two = drop_more o 0 0 (omega arith) ∙ ap (λ xs. get_or o 0 0 ∷ xs) (drop_more o 1 0 (omega arith)) in (
-      accepted (omega arith, omega arith) (omega arith),
-      record {
-        count = refl;
-        buffer =
-            ap (λ xs. set (set xs 0 c.kind.result) 1 c.args.n) two
-            ∙ ap (λ k. k ∷ c.args.n ∷ drop 2 o) c.kind.ensures;
-      },
-    )
+    let M = g.F.Field.model in
+    let count = c.is_count.ensures.0 c.if-not-is_count.false in
+    let wrote = rw c.kind.ensures at c.put_bytes.ensures in
+    rw c.ok_or.ensures.value (header_written M c.args.n count c.args.out.now c.put_bytes.new.out c.put_bytes.result wrote)
