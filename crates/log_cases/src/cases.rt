@@ -9,21 +9,20 @@ use std::io;
 // The name, the count of members, and the log: a tuple, so that a list of logs has one line for each.
 pub(crate) type Case<'a> = (&'a str, usize, &'a [u8]);
 
-// Whether a log is written again as the bytes that it was read from.
+// Whether a log is written again as the bytes that it was read from: two lines, which only a buffer of another length
+// tells from those of generated logs.
 fn again<F: Field>(log: &[u8], n: usize) -> bool {
     let mut out = [0; 64];
     rewrite::<F>(log, n, &mut out).is_ok_and(|written| out.get(..written) == Some(log))
 }
 
 fn rows<F: Field>(rt: &HostRuntime, rec: &Record<F>) -> io::Result<()> {
-    for k in 0..rec.row_count() {
-        if let Some(found) = rec.row(RowNumber(k)) {
-            let row = Row {
-                weights: &found.row.weights[..rec.count()],
-                figure: found.row.figure,
-            };
-            println!(rt; "  {row}")?;
-        }
+    for found in (0..rec.row_count()).filter_map(|k| rec.row(RowNumber(k))) {
+        let row = Row {
+            weights: &found.row.weights[..rec.count()],
+            figure: found.row.figure,
+        };
+        println!(rt; "  {row}")?;
     }
     Ok(())
 }

@@ -1,5 +1,5 @@
 // Sessions over wages 120, 95, 70, resumed from a log.
-ghost use Rattle.std.specs.Prelude.{◌≡◌, length};
+ghost use Rattle.std.specs.Prelude.{◌≡◌};
 
 use amounts::Amounts;
 use field::Element;

@@ -2,6 +2,7 @@
 use crate::show;
 use amounts::Amounts;
 use std::alloc::{AllocError, Global};
+use std::fmt::Write;
 use std::io;
 
 // A first byte, a second one, and digits up to the length.
@@ -35,8 +36,7 @@ fn filled(rt: &HostRuntime) -> io::Result<()> {
 fn longest(heap: Global) -> Result<String, AllocError> {
     let mut line = String::from_str(heap, "a")?;
     for m in 0..64 {
-        let item = format!(in heap; " {m}:65520")?;
-        line.push_str(item.as_str())?;
+        write!(line, " {m}:65520")?;
     }
     Ok(line)
 }

@@ -4,7 +4,7 @@ use field::Element;
 use refusal::Member;
 
 // How a row stands to the record.
-#[derive(Clone, Copy)]
+#[derive(Clone, Copy, PartialEq, Eq, Debug)]
 pub enum Judgement {
     // The record fixes its sum, at this figure.
     Fixed(Element),
@@ -14,7 +14,7 @@ pub enum Judgement {
 }
 
 // What became of a row that was admitted.
-#[derive(Clone, Copy)]
+#[derive(Clone, Copy, PartialEq, Eq, Debug)]
 pub enum Admission {
     Joined,
     // The record fixes the row already, and is as it was.

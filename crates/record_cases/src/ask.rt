@@ -26,8 +26,7 @@ fn witness<F: Field>(
     member: Member,
     element: Element,
     length: usize,
-) -> io::Result<()>
-{
+) -> io::Result<()> {
     let mut room = [Element(9); 64];
     let out = &mut room[0..length.min(64)];
     match rec.witness(member, element, out) {
@@ -39,8 +38,7 @@ fn witness<F: Field>(
     }
 }
 
-fn one<F: Field>(rt: &HostRuntime, case: &str, rec: &mut Record<F>, ask: Ask) -> io::Result<()>
-{
+fn one<F: Field>(rt: &HostRuntime, case: &str, rec: &mut Record<F>, ask: Ask) -> io::Result<()> {
     match ask {
         Ask::Rows => show::rows(rt, case, rec),
         Ask::Judge(row) => { println!(rt; "{case}: {}", Answered(rec.judge(row).map(Judged))) }
@@ -54,8 +52,7 @@ fn one<F: Field>(rt: &HostRuntime, case: &str, rec: &mut Record<F>, ask: Ask) ->
     }
 }
 
-fn each<F: Field>(rt: &HostRuntime, rec: &mut Record<F>, asks: &[(&str, Ask)]) -> io::Result<()>
-{
+fn each<F: Field>(rt: &HostRuntime, rec: &mut Record<F>, asks: &[(&str, Ask)]) -> io::Result<()> {
     for (case, ask) in asks {
         one(rt, case, rec, *ask)?;
     }

@@ -43,14 +43,12 @@ pub(crate) fn table(rt: &HostRuntime, case: &str, elements: &[Element]) -> io::R
 pub(crate) fn rows<F: Field>(rt: &HostRuntime, case: &str, rec: &Record<F>) -> io::Result<()> {
     let rows = rec.row_count();
     println!(rt; "{case}: rows {rows}")?;
-    for k in 0..rows {
-        if let Some(found) = rec.row(RowNumber(k)) {
-            let row = Row {
-                weights: &found.row.weights[..rec.count()],
-                figure: found.row.figure,
-            };
-            println!(rt; "{row}, pivot {}", found.pivot.0)?;
-        }
+    for found in (0..rows).filter_map(|k| rec.row(RowNumber(k))) {
+        let row = Row {
+            weights: &found.row.weights[..rec.count()],
+            figure: found.row.figure,
+        };
+        println!(rt; "{row}, pivot {}", found.pivot.0)?;
     }
     match rec.row(RowNumber(rows)) {
         Some(_) => println!(rt; "a row too many"),

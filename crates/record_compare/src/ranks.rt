@@ -4,7 +4,8 @@ ghost use Rattle.std.specs.Prelude.{◌<◌};
 use crate::given::Figured;
 use crate::rows::{NOBODY, Row, alone};
 use field::{Element, Field};
-use refusal::Member;
+use record::{Admission, Judgement};
+use refusal::{Member, Refusal, Site};
 use std::alloc::{AllocError, Global};
 use std::array;
 
@@ -16,6 +17,28 @@ pub(crate) enum Verdict {
     // The lowest member that would be pinned.
     Pinning(Member),
     Free,
+}
+
+impl Verdict {
+    // How the record is to judge such a row. A fixed row has the table's own figure.
+    pub(crate) fn judgement(self, figure: Element) -> Result<Judgement, Refusal> {
+        match self {
+            Verdict::NamesNobody => Err(Refusal::NoMemberNamed(Site::Nothing)),
+            Verdict::Fixed => Ok(Judgement::Fixed(figure)),
+            Verdict::Pinning(member) => Ok(Judgement::Pinning(member)),
+            Verdict::Free => Ok(Judgement::Free),
+        }
+    }
+
+    // What is to become of it.
+    pub(crate) fn admission(self) -> Result<Admission, Refusal> {
+        match self {
+            Verdict::NamesNobody => Err(Refusal::NoMemberNamed(Site::Nothing)),
+            Verdict::Fixed => Ok(Admission::Kept),
+            Verdict::Pinning(member) => Err(Refusal::Discloses(Site::OfMember(member))),
+            Verdict::Free => Ok(Admission::Joined),
+        }
+    }
 }
 
 // Takes that multiple of `by` from a row which leaves 0 at member `m`.

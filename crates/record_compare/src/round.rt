@@ -4,7 +4,7 @@ ghost use Rattle.std.specs.Prelude.{◌<◌, ◌≤◌};
 use crate::given::{Figured, Given};
 use crate::ranks::{plain_verdict, rank_with};
 use crate::rows::{NOBODY, Row, generated};
-use crate::tally::{Tally, admitted_alike, judged_alike};
+use crate::tally::Tally;
 use field::{Element, Field};
 use record::{Record, Room};
 use refusal::Member;
@@ -41,16 +41,15 @@ fn give<F: Field>(
     given: &mut Given,
     figured: Figured,
     tally: &mut Tally,
-) -> Result<bool, AllocError>
-{
+) -> Result<bool, AllocError> {
     let Figured { row, figure } = figured;
     let n = rec.count();
     let expected = plain_verdict::<F>(heap, given.rows(), &row, n)?;
     let judged = rec.judge(&row[..n]);
     let admitted = rec.admit(&row[..n], figure);
     given.take(expected, figured)?;
-    let agree = judged_alike(expected, figure, judged)
-        && admitted_alike(expected, admitted)
+    let agree = judged == expected.judgement(figure)
+        && admitted == expected.admission()
         && rec.row_count() == rank_with::<F>(heap, given.rows(), &[])?;
     tally.row(expected, agree);
     Ok(agree)
@@ -62,8 +61,7 @@ fn round<F: Field>(
     rec: &mut Record<F>,
     play: Play,
     tally: &mut Tally,
-) -> io::Result<()>
-{
+) -> io::Result<()> {
     let start = dice.roll(play.members - play.reach + 1);
     let table: Row = array::from_fn(|_| dice.element::<F>());
     let mut given = Given::nothing(rt.alloc());

@@ -1,8 +1,5 @@
 // What was found, counted.
 use crate::ranks::Verdict;
-use field::Element;
-use record::{Admission, Judgement};
-use refusal::{Refusal, Site};
 use std::io;
 use trials::count_one;
 
@@ -15,32 +12,6 @@ pub(crate) struct Tally {
     pinning: usize,
     free: usize,
     witnesses: usize,
-}
-
-// Whether the record judges as the plain computation does. A fixed row has the table's own figure.
-pub(crate) fn judged_alike(
-    verdict: Verdict,
-    figure: Element,
-    judged: Result<Judgement, Refusal>,
-) -> bool {
-    match (verdict, judged) {
-        (Verdict::NamesNobody, Err(Refusal::NoMemberNamed(Site::Nothing))) => true,
-        (Verdict::Fixed, Ok(Judgement::Fixed(told))) => told == figure,
-        (Verdict::Pinning(pinned), Ok(Judgement::Pinning(member))) => member == pinned,
-        (Verdict::Free, Ok(Judgement::Free)) => true,
-        _ => false,
-    }
-}
-
-// Whether the record admits as the plain computation does.
-pub(crate) fn admitted_alike(verdict: Verdict, admitted: Result<Admission, Refusal>) -> bool {
-    match (verdict, admitted) {
-        (Verdict::NamesNobody, Err(Refusal::NoMemberNamed(Site::Nothing))) => true,
-        (Verdict::Fixed, Ok(Admission::Kept)) => true,
-        (Verdict::Pinning(i), Err(Refusal::Discloses(site))) => site == Site::OfMember(i),
-        (Verdict::Free, Ok(Admission::Joined)) => true,
-        _ => false,
-    }
 }
 
 impl Tally {

@@ -1,5 +1,6 @@
 // How calls and their replies are shown.
 use field::Element;
+use refusal::Refusal;
 use session::{Call, Reply};
 use shown::{Listed, Refused};
 use std::fmt;
@@ -41,27 +42,27 @@ impl fmt::Display for Asked<'_> {
     }
 }
 
-// The reply to a call, where a filled buffer counts for so many members.
+// The reply to a call, or its refusal, where a filled buffer counts for so many members.
 #[derive(Clone, Copy)]
 pub(crate) struct Replied<'a> {
-    pub reply: &'a Reply,
+    pub reply: &'a Result<Reply, Refusal>,
     pub members: usize,
 }
 
 impl fmt::Display for Replied<'_> {
     fn fmt<W: fmt::Write>(&self, f: &mut fmt::Formatter<W>) -> fmt::Result {
         match self.reply {
-            Reply::Permits(number) => write!(f, "permit {number}"),
-            Reply::Gives(figure) => write!(f, "{}", figure.0),
-            Reply::TakenBack => f.write_str("taken back"),
-            Reply::Fills(out) => {
+            Ok(Reply::Permits(number)) => write!(f, "permit {number}"),
+            Ok(Reply::Gives(figure)) => write!(f, "{}", figure.0),
+            Ok(Reply::TakenBack) => f.write_str("taken back"),
+            Ok(Reply::Fills(out)) => {
                 let filled = Listed {
                     elements: &out[..self.members.min(out.len())],
                     between: " ",
                 };
                 write!(f, "{filled}")
             }
-            Reply::Refuses(refusal) => write!(f, "{}", Refused(*refusal)),
+            Err(refusal) => write!(f, "{}", Refused(*refusal)),
         }
     }
 }

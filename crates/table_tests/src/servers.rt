@@ -4,6 +4,7 @@ use amounts::Amounts;
 use field::{Element, Field};
 use refusal::{Member, Refusal};
 use server::{Array, Pair, Server, row_sum};
+use shown::Refused;
 use std::io;
 use table_file::TableFile;
 use ticks::Ticks;
@@ -58,7 +59,7 @@ fn pair<L: Server + Drop, R: Server<Over = L::Over> + Drop>(
             show::value(rt, "member 2 of it", both.value(Member(2)))?;
             show::value(rt, "member 3 of it", both.value(Member(3)))
         }
-        Err(refusal) => show::refused(rt, case, refusal),
+        Err(refusal) => println!(rt; "{case}: {}", Refused(refusal)),
     }
 }
 
@@ -125,7 +126,7 @@ fn sums<F: Field>(
             }
             Ok(())
         }
-        Err(refusal) => show::refused(rt, "no table", refusal),
+        Err(refusal) => println!(rt; "no table: {}", Refused(refusal)),
     }
 }
 

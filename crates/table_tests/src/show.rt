@@ -2,15 +2,8 @@
 use field::Element;
 use refusal::{Member, Refusal};
 use server::Server;
+use shown::Refused;
 use std::io;
-
-pub(crate) fn refused(rt: &HostRuntime, case: &str, refusal: Refusal) -> io::Result<()> {
-    println!(rt;
-        "{case}: refused by {} with {}",
-        refusal.number(),
-        refusal.detail()
-    )
-}
 
 pub(crate) fn number(rt: &HostRuntime, case: &str, e: Element) -> io::Result<()> {
     println!(rt; "{case}: {e}")
@@ -42,6 +35,6 @@ pub(crate) fn made<S: Server + Drop>(
 ) -> io::Result<()> {
     match made {
         Ok(server) => table(rt, case, &server),
-        Err(refusal) => refused(rt, case, refusal),
+        Err(refusal) => println!(rt; "{case}: {}", Refused(refusal)),
     }
 }
