@@ -43,7 +43,7 @@ fn witness_table<S: Server>(
     ensures law { Steps S.Over.Field.model (S.Server.table session.now.server) session.now (witnesses member.0 element.0 (length (S.Server.table session.now.server))) (table_reply (length (S.Server.table session.now.server)) result) session.now }
 {
     let mut table = [Element(0); 64];
-    session.witness(member, element, &mut table[0..session.count()])?;
+    session.witness(member, element, &mut table[..session.count()])?;
     Ok(table)
 }
 
@@ -56,11 +56,11 @@ pub fn carry_out<S: Server>(session: &mut Session<S>, line: &[u8]) -> Result<Out
     let n = session.count();
     match read_line::<S::Over>(line, n)? {
         Request::Ask(weights) => {
-            let figure = ask(session, &weights.0[0..n])?;
+            let figure = ask(session, &weights.0[..n])?;
             Ok(Outcome::Answered(weights, figure))
         }
         Request::Try(weights) => {
-            attempt(session, &weights.0[0..n])?;
+            attempt(session, &weights.0[..n])?;
             Ok(Outcome::Granted)
         }
         Request::Witness(member, element) => {

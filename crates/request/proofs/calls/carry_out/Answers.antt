@@ -1,4 +1,4 @@
-use Rattle.std.proofs.Common.{◌≡◌, ℕ, ◌-◌, length, take, Err, sym, refl, ap, ◌∙◌, subst, arith}
+use Rattle.std.proofs.Common.{◌≡◌, ℕ, length, take, Err, sym, refl, ap, ◌∙◌, subst, arith}
 use Rattle.std.proofs.lemmas.Result.{err_from_is_err_and}
 use Rattle.server.specs.Tables.{value_at}
 use Rattle.history.specs.Events.{gives, takes_back, refused}
@@ -38,7 +38,7 @@ returns-in_err-figure-in-Ask g c =
     let w = c.in-Ask.weights in
     let e = c.in_err-figure-in-Ask.field-0.0 in
     let is = read_as M line c.count-n.ensures.members c.in_ok-weights.ensures.is c.in-Ask.is in
-    let size : c.count-n.result - 0 ≡ length T = omega (arith, c.count-n.ensures.members) in
+    let size : c.count-n.result ≡ length T = omega (arith, c.count-n.ensures.members) in
     let at = c.in_err-figure-in-Ask.ensures in
     let leads = subst (λ (k : ℕ). Leads M T x x' (λ s h. Asked M (length T) (value_at T) s h (take k w.0) (refused e))) size at.law in
     let p = err_from_is_err_and c.from_residual-in_err-figure-in-Ask.result c.from_residual-in_err-figure-in-Ask.ensures.1 in
@@ -54,7 +54,7 @@ returns-in_ok-figure-in-Ask g c =
     let w = c.in-Ask.weights in
     let v = c.in_ok-figure-in-Ask.figure.0 in
     let is = read_as M line c.count-n.ensures.members c.in_ok-weights.ensures.is c.in-Ask.is in
-    let size : c.count-n.result - 0 ≡ length T = omega (arith, c.count-n.ensures.members) in
+    let size : c.count-n.result ≡ length T = omega (arith, c.count-n.ensures.members) in
     let at = c.in_ok-figure-in-Ask.ensures in
     let leads = subst (λ (k : ℕ). Leads M T x x' (λ s h. Asked M (length T) (value_at T) s h (take k w.0) (gives v))) size at.law in
     record { server = at.server; read = is; law = asked-line M T x x' line w (gives v) is leads }
@@ -69,7 +69,7 @@ returns-in_err-attempt-in-Try g c =
     let w = c.in-Try.weights in
     let e = c.in_err-attempt-in-Try.field-0.0 in
     let is = read_as M line c.count-n.ensures.members c.in_ok-weights.ensures.is c.in-Try.is in
-    let size : c.count-n.result - 0 ≡ length T = omega (arith, c.count-n.ensures.members) in
+    let size : c.count-n.result ≡ length T = omega (arith, c.count-n.ensures.members) in
     let at = c.in_err-attempt-in-Try.ensures in
     let leads = subst (λ (k : ℕ). Leads M T x x' (λ s h. Tried M (length T) (value_at T) s h (take k w.0) (refused e))) size at.law in
     let p = err_from_is_err_and c.from_residual-in_err-attempt-in-Try.result c.from_residual-in_err-attempt-in-Try.ensures.1 in
@@ -84,7 +84,7 @@ returns-in_ok-attempt-in-Try g c =
     let line = c.args.line.now in
     let w = c.in-Try.weights in
     let is = read_as M line c.count-n.ensures.members c.in_ok-weights.ensures.is c.in-Try.is in
-    let size : c.count-n.result - 0 ≡ length T = omega (arith, c.count-n.ensures.members) in
+    let size : c.count-n.result ≡ length T = omega (arith, c.count-n.ensures.members) in
     let at = c.in_ok-attempt-in-Try.ensures in
     let leads = subst (λ (k : ℕ). Leads M T x x' (λ s h. Tried M (length T) (value_at T) s h (take k w.0) takes_back)) size at.law in
     record { server = at.server; read = (w, is); law = tried-line M T x x' line w takes_back is leads }
