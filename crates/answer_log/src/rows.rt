@@ -49,10 +49,7 @@ impl<'a, F: Field> Iterator for LogRows<'a, F> {
             return None;
         }
         let entry = read_row::<F>(self.bytes, self.at, self.n, LogRow(self.row));
-        self.at = match &entry {
-            Ok(entry) => entry.next,
-            Err(_) => self.bytes.len(),
-        };
+        self.at = entry.as_ref().map_or(self.bytes.len(), |entry| entry.next);
         self.row += 1;
         Some(entry)
     }
