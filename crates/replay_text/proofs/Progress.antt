@@ -1,7 +1,7 @@
 -- A replay on its way: what is known before each line, and after one line more. Assumes nothing.
-use Rattle.std.proofs.Common.{◌≡◌, ℕ, suc, ◌+◌, ◌-◌, ◌<◌, ◌≤◌, List, [], ◌∷◌, ◌++◌, length, get_or, take, drop, None, Option, sym, refl, ap, ◌∙◌, subst, ap₂, arith, length-drop}
+use Rattle.std.proofs.Common.{◌≡◌, ℕ, suc, ◌+◌, ◌-◌, ◌≤◌, List, [], ◌∷◌, ◌++◌, length, take, drop, Option, sym, refl, ap, ◌∙◌, subst, arith, length-drop}
 use borrow.Rule.Slice.PartMut.{put_mid}
-use Rattle.std.proofs.lemmas.List.{append-nil, append_assoc, take_more, take-take, drop-take, take-append-drop, drop-drop, length-append, length-take-le}
+use Rattle.std.proofs.lemmas.List.{append-nil, append_assoc, drop-drop, length-append, length-take-le}
 use Rattle.refusal.specs.declared.Refusal.{Refusal}
 use Rattle.field.specs.declared.Field as field
 use Rattle.server.specs.declared.Server as server
@@ -50,17 +50,10 @@ rows_more M n (g ∷ new) rows =
 log_more : (M : FieldModel) (n : ℕ) (new rows : List Figured) → log_bytes M n rows ++ rows_bytes M n new ≡ log_bytes M n (new ++ rows)
 log_more M n new rows = append_assoc (header_bytes M n) (rows_bytes M n rows) (rows_bytes M n new) ∙ ap (λ bs. header_bytes M n ++ bs) (sym (rows_more M n new rows))
 
--- the text up to the next line, from that up to this one
-cut_line :
-    (text : List ℕ) (at end : ℕ) → at ≤ end → end < length text → get_or text end 0 ≡ 10
-    → take at text ++ (take (end - at) (drop at text) ++ (10 ∷ [])) ≡ take (end + 1) text
-cut_line text at end order inside newline =
-    let front : take at text ++ take (end - at) (drop at text) ≡ take end text =
-    ap₂ (λ us vs. us ++ vs) (sym (take-take at end text order))
-    (sym (drop-take at (end - at) text) ∙ ap (λ k. drop at (take k text)) (let z : at + (end - at) ≡ end = omega arith in z))
-    ∙ take-append-drop at (take end text) in
-    sym (append_assoc (take at text) (take (end - at) (drop at text)) (10 ∷ [])) ∙ ap (λ us. us ++ (10 ∷ [])) front
-    ∙ ap (λ b. take end text ++ b ∷ []) (sym newline) ∙ sym (take_more text end 0 inside)
+-- the text up to a line, and that line
+line_more : (before line rest : List ℕ) → before ++ (line ++ (10 ∷ rest)) ≡ (before ++ (line ++ (10 ∷ []))) ++ rest
+line_more before line rest =
+    ap (λ bs. before ++ bs) (sym (append_assoc line (10 ∷ []) rest)) ∙ sym (append_assoc before (line ++ (10 ∷ [])) rest)
 
 -- the part of a buffer that is left
 abbrev pub left : List ℕ → ℕ → List ℕ
@@ -77,11 +70,13 @@ part_back xs a ys k within same fits =
     let front = length-take-le a xs within in omega (arith, all, part, front, same, fits)
 
 -- what is known before a line, for a history h that the session began with
-pub record Progress {S V : Type 0} {GS : server.Ghosts S V} {GV : field.Ghosts V} (M : FieldModel) (T : List ℕ) (x : Session S V GS GV) (text answers₀ log₀ answers log : List ℕ) (done : Replay) (at : ℕ) (s : Start) (h : List Event) : Type 0 where
+pub record Progress {S V : Type 0} {GS : server.Ghosts S V} {GV : field.Ghosts V} (M : FieldModel) (T : List ℕ) (x : Session S V GS GV) (text answers₀ log₀ answers log : List ℕ) (done : Replay) (rest : List ℕ) (s : Start) (h : List Event) : Type 0 where
+  pub before : List ℕ
+  pub cut : text ≡ before ++ rest
   pub after : List Event
   pub out : List ℕ
   pub rows : List Figured
-  pub lines : Lines M (length T) (value_at T) s h (length answers₀) (length log₀) done.lines (take at text) after out rows
+  pub lines : Lines M (length T) (value_at T) s h (length answers₀) (length log₀) done.lines before after out rows
   pub printed_is : Front answers₀ answers out done.answers
   pub logged_is : Front log₀ log (log_bytes M (length T) rows) done.log
   pub answered_is : answered after ≡ rows ++ answered h
@@ -89,18 +84,18 @@ pub record Progress {S V : Type 0} {GS : server.Ghosts S V} {GV : field.Ghosts V
 
 module _ {S V : Type 0} {GS : server.Ghosts S V} {GV : field.Ghosts V} (M : FieldModel) (T : List ℕ) (text answers₀ log₀ : List ℕ) (s : Start) (h : List Event) where
   pub one_line :
-      (x x' : Session S V GS GV) (answers log : List ℕ) (done : Replay) (at end : ℕ)
-      → (p : Progress M T x text answers₀ log₀ answers log done at s h)
-      → at ≤ end → end < length text → NoNewline (take (end - at) (drop at text)) → get_or text end 0 ≡ 10
+      (x x' : Session S V GS GV) (answers log : List ℕ) (done : Replay) (rest line rest' : List ℕ)
+      → (p : Progress M T x text answers₀ log₀ answers log done rest s h)
+      → NoNewline line → rest ≡ line ++ (10 ∷ rest')
       → 392 ≤ length answers - done.answers → 139 ≤ length log - done.log
       → (o : Option Reply) (new : List Figured) (h' : List Event)
-      → Handled M (length T) (value_at T) s p.after (take (end - at) (drop at text)) o new h' → Holds M T x' s h'
+      → Handled M (length T) (value_at T) s p.after line o new h' → Holds M T x' s h'
       → (used : Used) (answers' log' : List ℕ) → used.answers ≤ length (left answers done.answers) → used.log ≤ length (left log done.log)
       → Put (printed (done.lines + 1) o) (left answers done.answers) answers' used.answers
       → Put (rows_bytes M (length T) new) (left log done.log) log' used.log
       → Progress M T x' text answers₀ log₀ (put_mid done.answers (length answers - done.answers) answers answers') (put_mid done.log (length log - done.log) log log')
-      (record { lines = done.lines + 1; answers = done.answers + used.answers; log = done.log + used.log; stop = None }) (end + 1) s h
-  one_line x x' answers log done at end p order inside plain newline room log-room o new h' handled holds used answers' log' fits log-fits put-answers put-log =
+      (record { lines = done.lines + 1; answers = done.answers + used.answers; log = done.log + used.log; stop = done.stop }) rest' s h
+  one_line x x' answers log done rest line rest' p plain is room log-room o new h' handled holds used answers' log' fits log-fits put-answers put-log =
       let same-answers = same_length answers₀ answers p.out done.answers p.printed_is in
       let same_log = same_length log₀ log _ done.log p.logged_is in
       let size = p.printed_is.size in
@@ -113,11 +108,11 @@ module _ {S V : Type 0} {GS : server.Ghosts S V} {GV : field.Ghosts V} (M : Fiel
         after = h';
         out = p.out ++ printed (done.lines + 1) o;
         rows = new ++ p.rows;
+        before = p.before ++ (line ++ (10 ∷ []));
+        cut = p.cut ∙ ap (λ bs. p.before ++ bs) is ∙ line_more p.before line rest';
         lines =
-            subst (λ (l : List ℕ). Lines M (length T) (value_at T) s h (length answers₀) (length log₀) (done.lines + 1) l h' (p.out ++ printed (done.lines + 1) o) (new ++ p.rows))
-            (cut_line text at end order inside newline)
-            (one_more done.lines (take at text) p.after p.out p.rows p.lines (omega (arith, room, same-answers, size)) (omega (arith, log-room, same_log, log-size))
-            (take (end - at) (drop at text)) plain o new h' handled);
+            one_more done.lines p.before p.after p.out p.rows p.lines (omega (arith, room, same-answers, size)) (omega (arith, log-room, same_log, log-size))
+            line plain o new h' handled;
         printed_is = front-put answers₀ answers p.out done.answers p.printed_is (printed (done.lines + 1) o) answers' used.answers put-answers (omega (arith, fits, part, count, room, same-answers));
         logged_is =
             front_as log₀ _ _ _
@@ -131,20 +126,20 @@ module _ {S V : Type 0} {GS : server.Ghosts S V} {GV : field.Ghosts V} (M : Fiel
 
   -- the replay ends where no further line is handled
   pub ended :
-      (x : Session S V GS GV) (answers log : List ℕ) (done : Replay) (at : ℕ) → length text ≤ 65536 → 2 ≤ length log₀
-      → (p : Progress M T x text answers₀ log₀ answers log done at s h)
-      → (e : Option Refusal) → Stops (drop at text) (length answers - done.answers) (length log - done.log) e
+      (x : Session S V GS GV) (answers log : List ℕ) (done : Replay) (rest : List ℕ) → length text ≤ 65536 → 2 ≤ length log₀
+      → (p : Progress M T x text answers₀ log₀ answers log done rest s h)
+      → (e : Option Refusal) → Stops rest (length answers - done.answers) (length log - done.log) e
       → Replayed M (length T) (value_at T) s h text answers₀ log₀
       (record { lines = done.lines; answers = done.answers; log = done.log; stop = stopped (done.lines + 1) e }) p.after answers log
-  ended x answers log done at short wide p e stops =
+  ended x answers log done rest short wide p e stops =
       let all = front_all answers₀ answers p.out done.answers p.printed_is p.out refl in
       let all-log = front_all log₀ log _ done.log p.logged_is (log_bytes M (length T) p.rows) refl in
       let same-answers = same_length answers₀ answers p.out done.answers p.printed_is in
       let same_log = same_length log₀ log _ done.log p.logged_is in
       let room : length answers - done.answers ≡ length answers₀ - length p.out = let z = all.count in omega (arith, z, same-answers) in
       let log-room : length log - done.log ≡ length log₀ - length (log_bytes M (length T) p.rows) = let z = all-log.count in omega (arith, z, same_log) in
-      let whole = replayed short wide done.lines (take at text) (drop at text) p.after p.out p.rows (sym (take-append-drop at text)) p.lines e
-      (subst (λ (k : ℕ). Stops (drop at text) (length answers₀ - length p.out) k e) log-room (subst (λ (k : ℕ). Stops (drop at text) k (length log - done.log) e) room stops))
+      let whole = replayed short wide done.lines p.before rest p.after p.out p.rows p.cut p.lines e
+      (subst (λ (k : ℕ). Stops rest (length answers₀ - length p.out) k e) log-room (subst (λ (k : ℕ). Stops rest k (length log - done.log) e) room stops))
       p.answered_is in
       let stop = stopped (done.lines + 1) e in
       let counted =

@@ -26,21 +26,6 @@ pub(crate) struct Used {
     pub log: usize,
 }
 
-// The place of the first newline from a place on.
-pub(crate) fn line_end(text: &[u8], start: usize) -> Option<usize>
-    requires { start ≤ length text.now }
-    ensures { MatchOption result (NoNewline (drop start text.now)) (λ end. (start ≤ end) × (end < length text.now) × NoNewline (slice_range text.now start end) × (slice_index text.now end ≡ 10)) }
-{
-    let mut end = start;
-    while end < text.len() {
-        if text[end] == b'\n' {
-            return Some(end);
-        }
-        end += 1;
-    }
-    None
-}
-
 // Prints what came of a line, and answers how many bytes that takes. What does not fit is not printed.
 fn print(number: usize, n: usize, came: &Result<Outcome, RequestFault>, out: &mut [u8]) -> usize
     requires { n ≤ 64 }

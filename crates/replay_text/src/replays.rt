@@ -1,5 +1,5 @@
 // A whole replay.
-ghost use Rattle.std.specs.Prelude.{◌≡◌, ℕ, ◌-◌, ◌<◌, ◌≤◌, length, drop, Some, MatchResult, slice_index, slice_range};
+ghost use Rattle.std.specs.Prelude.{◌≡◌, ◌≤◌, ◌∷◌, ◌++◌, length, Some, MatchResult};
 ghost use Rattle.buffer.specs.Buffers.{Front};
 ghost use Rattle.server.specs.Tables.{value_at};
 ghost use Rattle.answer_log.specs.Rows.{header_bytes};
@@ -7,7 +7,7 @@ ghost use Rattle.history.specs.Theorems.{JudgingIsExact, EveryValueStaysPossible
 ghost use Rattle.request.specs.Carried.{Leads};
 ghost use Rattle.replay_text.specs.Replays.{NoNewline, Stops, Replayed};
 
-use crate::lines::{handle_line, line_end};
+use crate::lines::handle_line;
 use crate::outcome::{Replay, Stop};
 use answer_log::write_header;
 use refusal::Refusal;
@@ -22,10 +22,10 @@ const ANSWER_ROOM: usize = 392;
 
 const LOG_ROOM: usize = 139;
 
-// Where the line that begins at a place ends, if there is room enough to handle it.
-fn next_line(text: &[u8], at: usize, room: usize, log_room: usize) -> Result<usize, Refusal>
-    requires { at < length text.now }
-    ensures { MatchResult result (λ end. (392 ≤ room) × (139 ≤ log_room) × (at ≤ end) × (end < length text.now) × NoNewline (slice_range text.now at end) × (slice_index text.now end ≡ 10)) (λ e. Stops (drop at text.now) room log_room (Some e)) }
+// The first line of what is left of a text and the rest after it, if there is room enough to handle the line.
+fn first_line(rest: &[u8], room: usize, log_room: usize) -> Result<(&[u8], &[u8]), Refusal>
+    requires { 1 ≤ length rest.now }
+    ensures { MatchResult result (λ p. (392 ≤ room) × (139 ≤ log_room) × NoNewline p.0.now × (rest.now ≡ p.0.now ++ (10 ∷ p.1.now))) (λ e. Stops rest.now room log_room (Some e)) }
 {
     if room < ANSWER_ROOM {
         return Err(Refusal::AnswersFull);
@@ -33,8 +33,8 @@ fn next_line(text: &[u8], at: usize, room: usize, log_room: usize) -> Result<usi
     if log_room < LOG_ROOM {
         return Err(Refusal::LogFull);
     }
-    match line_end(text, at) {
-        Some(end) => Ok(end),
+    match rest.iter().position(|b| *b == b'\n') {
+        Some(end) => Ok((&rest[..end], &rest[end + 1..])),
         None => Err(Refusal::LineNotEnded),
     }
 }
@@ -58,28 +58,23 @@ fn handle_lines<S: Server>(
         log: header,
         stop: None,
     };
-    let mut at = 0;
-    while at < text.len() {
+    let mut rest = text;
+    // not a `for` over `split_inclusive`: its proof did not close in a function with this bound
+    while !rest.is_empty() {
         let number = done.lines + 1;
-        let printed = done.answers;
-        let logged = done.log;
-        match next_line(text, at, answers.len() - printed, log.len() - logged) {
-            Ok(end) => {
-                let line = &text[at..end];
+        match first_line(rest, answers.len() - done.answers, log.len() - done.log) {
+            Ok((line, after)) => {
                 let used = handle_line(
                     session,
                     number,
                     line,
-                    &mut answers[printed..],
-                    &mut log[logged..],
+                    &mut answers[done.answers..],
+                    &mut log[done.log..],
                 );
-                done = Replay {
-                    lines: number,
-                    answers: printed + used.answers,
-                    log: logged + used.log,
-                    stop: None,
-                };
-                at = end + 1;
+                done.lines = number;
+                done.answers += used.answers;
+                done.log += used.log;
+                rest = after;
             }
             Err(refusal) => {
                 done.stop = Some(Stop {

@@ -1,10 +1,7 @@
 -- Vectors and lines that were written in a buffer. Assumes nothing.
-use Rattle.std.proofs.Common.{◌≡◌, ℕ, ◌-◌, cond, List, ◌++◌, length, take, drop, is_ok, IfOk, Some, None, MatchOption, Ok, Err, vec_items, Option, Result, Vec, refl, ap, ◌∙◌, arith}
-use Rattle.std.specs.declared.alloc.AllocError.{AllocError}
-use Rattle.std.specs.declared.alloc.Global.{Global}
+use Rattle.std.proofs.Common.{◌≡◌, ℕ, List, ◌++◌, length, take, drop, Some, None, MatchOption, Option, refl}
 use Rattle.std.proofs.lemmas.List.{take_at}
 use Rattle.std.specs.Option.{IsSome}
-use Rattle.buffer.specs.Buffers.{Put}
 
 -- a vector that was lent as a slice, where as many elements come back
 pub lent_back : (k : ℕ) (xs ws : List ℕ) → length ws ≡ k → take k (ws ++ drop (length ws) xs) ≡ ws

@@ -1,6 +1,4 @@
-use Rattle.std.proofs.Common.{◌≡◌, ◌-◌, List, length, take, None, ap, subst, arith}
-use Rattle.field.specs.declared.Element.{Element}
-use Rattle.answer_log.specs.Writes.{RowWrite}
+use Rattle.std.proofs.Common.{◌≡◌, ◌-◌, take, ap, arith}
 use Rattle.replay_text.proofs.Written.{row_put}
 use Rattle.replay_text.proofs.lines.log_row.Goals as goal
 
