@@ -56,10 +56,7 @@ fn print(number: usize, n: usize, came: &Result<Outcome, RequestFault>, out: &mu
         Ok(Outcome::Filled(table)) => Answer::Witness(&table[0..n]),
         Err(fault) => Answer::Refused(Refusal::from(*fault)),
     };
-    match write_answer(number, &answer, out) {
-        Some(written) => written,
-        None => 0,
-    }
+    write_answer(number, &answer, out).unwrap_or(0)
 }
 
 // Writes a row to the log with its figure, and answers how many bytes that takes. What cannot be written is left out.
@@ -70,10 +67,7 @@ fn log_row<F: Field>(n: usize, weights: &Weights, figure: Element, log: &mut [u8
     ensures put { RowWrite F.model n (row n weights.now) figure.0 (length log.old) None → Put (row_bytes F.model n (weights_of (row n weights.now)) figure.0) log.old log.new result }
     ensures none { (RowWrite F.model n (row n weights.now) figure.0 (length log.old) None → ⊥) → (result ≡ 0) × (log.new ≡ log.old) }
 {
-    match write_row::<F>(n, &weights.0[0..n], figure, log) {
-        Ok(written) => written,
-        Err(_) => 0,
-    }
+    write_row::<F>(n, &weights.0[0..n], figure, log).unwrap_or(0)
 }
 
 // Logs the row that a line had answered, if any.

@@ -37,19 +37,13 @@ impl Replay {
     pub fn stop_number(&self) -> u8
         ensures { result ≡ stop_number_lem self.now.stop }
     {
-        match self.stop {
-            Some(stop) => stop.refusal.number(),
-            None => 0,
-        }
+        self.stop.map_or(0, |stop| stop.refusal.number())
     }
 
     // The line before which it stopped, 0 where there was no stop.
     pub fn stop_line(&self) -> usize
         ensures { result ≡ stop_line_lem self.now.stop }
     {
-        match self.stop {
-            Some(stop) => stop.line,
-            None => 0,
-        }
+        self.stop.map_or(0, |stop| stop.line)
     }
 }

@@ -18,9 +18,7 @@ pub(crate) fn refusal_line(heap: Global, refusal: Refusal) -> Result<Vec<u8>, Al
     ensures { IfOk result (λ v. v.items ≡ refusal_line_lem (number refusal) (detail refusal)) }
 {
     let mut line = [0; LONGEST];
-    let Some(length) = write_refusal(&refusal, &mut line) else {
-        unreachable()
-    };
+    let length = write_refusal(&refusal, &mut line).unwrap();
     Vec::from_slice(heap, &line[0..length])
 }
 
@@ -32,8 +30,6 @@ pub(crate) fn add_stop(printed: &mut Vec<u8>, stop: Option<Stop>) -> Result<(), 
         return Ok(());
     };
     let mut line = [0; LONGEST];
-    let Some(length) = write_stop(&found.refusal, found.line, &mut line) else {
-        unreachable()
-    };
+    let length = write_stop(&found.refusal, found.line, &mut line).unwrap();
     printed.extend_from_slice(&line[0..length])
 }

@@ -2,16 +2,12 @@
 use Rattle.std.proofs.Common.{arith}
 use Rattle.refusal.specs.Numbered.{number, detail}
 use Rattle.survey_job.proofs.Pairs.{pair_fits, small_number}
-use Rattle.survey_job.proofs.Buffers.{written, made_of}
+use Rattle.survey_job.proofs.Buffers.{written_if}
 use Rattle.survey_job.proofs.lines.refusal_line.Goals as goal
 
-pub unreachable-requires : goal.unreachable-requires
-unreachable-requires c =
+pub unwrap-length-requires : goal.unwrap-length-requires
+unwrap-length-requires c =
     let e = c.args.refusal in
     let few = small_number e in
-    omega (arith, pair_fits 45 (number e) (detail e) (omega arith) (omega (arith, c.requires)), c.in_default.ensures)
-
-pub returns : goal.returns
-returns c =
-    made_of c.from_slice.result _ _ c.from_slice.ensures.items
-    (written _ _ _ c.in-Some.length c.in-Some.ensures.1)
+    let room = pair_fits 45 (number e) (detail e) (omega arith) (omega (arith, c.requires)) in
+    written_if _ _ c.write_refusal.result c.write_refusal.ensures (λ full. omega (arith, full.0, room))
