@@ -15,7 +15,7 @@ pub(crate) fn pair_length(first: usize, second: usize) -> usize
     1 + spaced_length(first) + spaced_length(second)
 }
 
-// Writes a mark and two numbers.
+// Writes a mark and two numbers. Not by `put_elements`: they may be greater than the code of an element.
 pub(crate) fn put_pair(mark: u8, first: usize, second: usize, out: &mut [u8]) -> usize
     requires { 1 + length (spaced (first ∷ second ∷ [])) ≤ length out.old }
     ensures { Put (mark ∷ spaced (first ∷ second ∷ [])) out.old out.new result }

@@ -27,7 +27,8 @@ fn same_rows<F: Field>(a: &Record<F>, b: &Record<F>) -> bool {
         })
 }
 
-// Whether a log is written again as the same bytes.
+// Whether a log is written again as the same bytes: two lines, which only a buffer of another length tells from those of
+// the worked cases.
 fn again<F: Field>(log: &[u8], n: usize) -> bool {
     let mut out = [0; 2048];
     rewrite::<F>(log, n, &mut out).is_ok_and(|written| out.get(..written) == Some(log))

@@ -51,8 +51,12 @@ impl Made {
     }
 
     // Gives a row with its figure over a table to the record, and writes it where it is admitted.
-    pub(crate) fn give<F: Field>(&mut self, rec: &mut Record<F>, row: &[Element], table: &[Element])
-    {
+    pub(crate) fn give<F: Field>(
+        &mut self,
+        rec: &mut Record<F>,
+        row: &[Element],
+        table: &[Element],
+    ) {
         let figure = figure::<F>(row, table);
         if rec.admit(row, figure).is_err() {
             return;

@@ -10,8 +10,7 @@ use std::{array, io};
 use trials::Dice;
 
 // A log of at most 12 rows.
-fn made<F: Field>(dice: &mut Dice, rec: &mut Record<F>) -> Made
-{
+fn made<F: Field>(dice: &mut Dice, rec: &mut Record<F>) -> Made {
     let n = rec.count();
     let table: [Element; 64] = array::from_fn(|_| dice.element::<F>());
     let mut log = Made::header::<F>(n);

@@ -9,7 +9,7 @@ mod choice;
 // A text has at most 65,536 bytes: one more tells that it is too long.
 const ENOUGH: u64 = 65537;
 
-// A missing file counts as an empty one.
+// A missing file counts as an empty one. A match: in a closure of `or_else` the kind would be tested all the same.
 fn read_table(rt: &HostRuntime) -> io::Result<Vec<u8>> {
     match fs::read(rt, "table.dat") {
         Ok(bytes) => Ok(bytes),

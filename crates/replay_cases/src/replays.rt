@@ -1,5 +1,5 @@
 // Replays over one session, one text after another.
-ghost use Rattle.std.specs.Prelude.{◌≡◌, length};
+ghost use Rattle.std.specs.Prelude.{◌≡◌};
 
 use crate::show;
 use crate::show::MARK;
@@ -11,7 +11,8 @@ use session::Session;
 use shown::Refused;
 use std::io;
 
-// The name, the text, and the bytes of both buffers: of the answers, and of the log.
+// The name, the text, and the bytes of both buffers: of the answers, and of the log. A tuple struct, so that a list of
+// cases has one line for each: a constant cannot call a function that would make one.
 #[derive(Clone, Copy)]
 pub(crate) struct Case<'a>(pub &'a str, pub &'a [u8], pub usize, pub usize);
 
@@ -25,8 +26,7 @@ fn one<S: Server>(rt: &HostRuntime, session: &mut Session<S>, case: Case) -> io:
     show::replayed(rt, name, &done, answers.as_slice(), log.as_slice())
 }
 
-fn texts<S: Server>(rt: &HostRuntime, session: &mut Session<S>, cases: &[Case]) -> io::Result<()>
-{
+fn texts<S: Server>(rt: &HostRuntime, session: &mut Session<S>, cases: &[Case]) -> io::Result<()> {
     for case in cases {
         one(rt, session, *case)?;
     }

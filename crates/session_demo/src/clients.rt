@@ -1,5 +1,5 @@
 // Two clients of a session: one has a row answered, one tries a row and takes it back.
-ghost use Rattle.std.specs.Prelude.{◌≡◌, length};
+ghost use Rattle.std.specs.Prelude.{◌≡◌};
 
 use field::Element;
 use refusal::Refusal;
