@@ -36,7 +36,7 @@ struct Granted {
 
 impl fmt::Display for Granted {
     fn fmt<W: fmt::Write>(&self, f: &mut fmt::Formatter<W>) -> fmt::Result {
-        write!(f, "permit {}, {}", self.permit, self.figure.0)
+        write!(f, "permit {}, {}", self.permit, self.figure)
     }
 }
 

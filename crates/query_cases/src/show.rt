@@ -1,5 +1,5 @@
 // How answers are shown.
-use field::Field;
+use field::{Element, Field};
 use query::{LineFault, Request, Weights, read_line};
 use refusal::Refusal;
 use std::io;
@@ -8,9 +8,8 @@ use std::io;
 fn weights(rt: &HostRuntime, kind: &str, row: &Weights) -> io::Result<()> {
     print!(rt; "{kind}")?;
     for (m, weight) in row.0.iter().enumerate() {
-        let code = weight.0;
-        if code != 0 {
-            print!(rt; " {m}:{code}")?;
+        if *weight != Element(0) {
+            print!(rt; " {m}:{weight}")?;
         }
     }
     println!(rt; "")
@@ -23,8 +22,7 @@ fn answer(rt: &HostRuntime, read: &Result<Request, LineFault>) -> io::Result<()>
         Ok(Request::Try(row)) => weights(rt, "ok, tries", row),
         Ok(Request::Witness(member, element)) => {
             let number = member.0;
-            let code = element.0;
-            println!(rt; "ok, witness {number} {code}")
+            println!(rt; "ok, witness {number} {element}")
         }
         Ok(Request::Remark) => println!(rt; "ok, remark"),
         Err(fault) => {

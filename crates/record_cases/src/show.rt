@@ -11,7 +11,7 @@ pub(crate) struct Judged(pub Judgement);
 impl fmt::Display for Judged {
     fn fmt<W: fmt::Write>(&self, f: &mut fmt::Formatter<W>) -> fmt::Result {
         match self.0 {
-            Judgement::Fixed(figure) => write!(f, "fixed at {}", figure.0),
+            Judgement::Fixed(figure) => write!(f, "fixed at {figure}"),
             Judgement::Pinning(member) => write!(f, "pins member {}", member.0),
             Judgement::Free => f.write_str("free"),
         }
@@ -34,7 +34,7 @@ impl fmt::Display for Admitted {
 pub(crate) fn table(rt: &HostRuntime, case: &str, elements: &[Element]) -> io::Result<()> {
     print!(rt; "{case}:")?;
     for e in elements {
-        print!(rt; " {}", e.0)?;
+        print!(rt; " {e}")?;
     }
     println!(rt; "")
 }

@@ -31,11 +31,10 @@ pub(crate) fn run(rt: &HostRuntime) -> io::Result<()> {
     };
     let mut session = Session::new(server, Room::new(rt.alloc())?);
     let taken_back = |()| "taken back";
-    let code = |figure: Element| figure.0;
     told(rt, "try 0 1 2", try_once(&mut session, ALL).map(taken_back))?;
-    told(rt, "ask 0 1", ask_once(&mut session, SHOPS_0_1).map(code))?;
-    told(rt, "ask 1 2", ask_once(&mut session, SHOPS_1_2).map(code))?;
-    told(rt, "ask 0 2", ask_once(&mut session, SHOPS_0_2).map(code))?;
-    told(rt, "ask 0 1 2", ask_once(&mut session, ALL).map(code))?;
+    told(rt, "ask 0 1", ask_once(&mut session, SHOPS_0_1))?;
+    told(rt, "ask 1 2", ask_once(&mut session, SHOPS_1_2))?;
+    told(rt, "ask 0 2", ask_once(&mut session, SHOPS_0_2))?;
+    told(rt, "ask 0 1 2", ask_once(&mut session, ALL))?;
     told(rt, "try 0 1 2", try_once(&mut session, ALL).map(taken_back))
 }

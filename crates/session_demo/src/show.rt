@@ -36,7 +36,7 @@ impl fmt::Display for Asked<'_> {
             Call::Answer(number) => write!(f, "answer {number}"),
             Call::Withdraw(number) => write!(f, "withdraw {number}"),
             Call::Witness(member, element, _) => {
-                write!(f, "witness of {} at {}", member.0, element.0)
+                write!(f, "witness of {} at {element}", member.0)
             }
         }
     }
@@ -53,7 +53,7 @@ impl fmt::Display for Replied<'_> {
     fn fmt<W: fmt::Write>(&self, f: &mut fmt::Formatter<W>) -> fmt::Result {
         match self.reply {
             Ok(Reply::Permits(number)) => write!(f, "permit {number}"),
-            Ok(Reply::Gives(figure)) => write!(f, "{}", figure.0),
+            Ok(Reply::Gives(figure)) => write!(f, "{figure}"),
             Ok(Reply::TakenBack) => f.write_str("taken back"),
             Ok(Reply::Fills(out)) => {
                 let filled = Listed {
