@@ -24,17 +24,14 @@ module _ (M : FieldModel) (n : ℕ) (ws : List Element) (f room : ℕ) where
   row_write_apart e good bad = apart (Some e) e good bad refl
 
 -- a row that can be written is written, and how long it is is answered
-module _ (M : FieldModel) (n : ℕ) (ws us : List Element) (f : ℕ) (log log' : List ℕ) (same : ws ≡ us) where
+module _ (M : FieldModel) (n : ℕ) (ws : List Element) (f : ℕ) (log log' : List ℕ) where
   pub row_put :
       (X : ℕ → Type 0) (r : Result ℕ Refusal)
       → MatchResult r (λ k. RowWrite M n ws f (length log) None × Put (row_bytes M n (weights_of ws) f) log log' k × X k) (λ e. RowWrite M n ws f (length log) (Some e) × (log' ≡ log))
       → (k : ℕ) → k ≡ result_unwrap_or r 0
-      → RowWrite M n us f (length log) None → Put (row_bytes M n (weights_of us) f) log log' k
-  row_put X (Ok j) done k is good =
-      subst (λ (vs : List Element). Put (row_bytes M n (weights_of vs) f) log log' k) same
-      (subst (λ (i : ℕ). Put (row_bytes M n (weights_of ws) f) log log' i) (sym is) done.1)
-  row_put X (Err e) done k is good =
-      absurd (row_write_apart M n us f (length log) e good (subst (λ (vs : List Element). RowWrite M n vs f (length log) (Some e)) same done.0))
+      → RowWrite M n ws f (length log) None → Put (row_bytes M n (weights_of ws) f) log log' k
+  row_put X (Ok j) done k is good = subst (λ (i : ℕ). Put (row_bytes M n (weights_of ws) f) log log' i) (sym is) done.1
+  row_put X (Err e) done k is good = absurd (row_write_apart M n ws f (length log) e good done.0)
 
 module _ (n room : ℕ) (count : Count n) where
   refused_with : (o : Option Refusal) (e : Refusal) → HeaderWrite n room o → o ≡ Some e → (e ≡ LogFull) × (room < 2)

@@ -1,19 +1,14 @@
-// One line of a replay: where it ends, what it prints, and what it logs.
-ghost use Rattle.std.specs.Prelude.{◌≡◌, ℕ, ◌-◌, ◌<◌, ◌≤◌, length, drop, None, MatchOption, slice_index, slice_range};
-ghost use Rattle.field.specs.Sums.{weights_of};
+// One line of a replay: what it prints, and what it logs.
+ghost use Rattle.std.specs.Prelude.{◌≡◌, ◌<◌, ◌≤◌, length};
 ghost use Rattle.buffer.specs.Buffers.{Put};
-ghost use Rattle.answer_log.specs.Rows.{row_bytes};
-ghost use Rattle.answer_log.specs.Writes.{RowWrite};
 ghost use Rattle.log_record.specs.Joins.{rows_bytes};
-ghost use Rattle.request.specs.Requests.{row};
 ghost use Rattle.request.specs.Carried.{outcome_reply, outcome_rows};
-ghost use Rattle.replay_text.specs.Replays.{NoNewline, printed};
+ghost use Rattle.replay_text.specs.Replays.{printed};
 ghost use Rattle.replay_text.specs.Handling.{Loggable, LineDone};
 
 use answer_log::write_row;
 use answer_text::{Answer, write_answer};
-use field::{Element, Field};
-use query::Weights;
+use field::Field;
 use refusal::Refusal;
 use request::{Outcome, RequestFault, carry_out};
 use server::Server;
@@ -44,18 +39,7 @@ fn print(number: usize, n: usize, came: &Result<Outcome, RequestFault>, out: &mu
     write_answer(number, &answer, out).unwrap_or(0)
 }
 
-// Writes a row to the log with its figure, and answers how many bytes that takes. What cannot be written is left out.
-fn log_row<F: Field>(n: usize, weights: &Weights, figure: Element, log: &mut [u8]) -> usize
-    requires { n ≤ 64 }
-    ensures within { result ≤ length log.old }
-    ensures length { length log.new ≡ length log.old }
-    ensures put { RowWrite F.model n (row n weights.now) figure.0 (length log.old) None → Put (row_bytes F.model n (weights_of (row n weights.now)) figure.0) log.old log.new result }
-    ensures none { (RowWrite F.model n (row n weights.now) figure.0 (length log.old) None → ⊥) → (result ≡ 0) × (log.new ≡ log.old) }
-{
-    write_row::<F>(n, &weights.0[0..n], figure, log).unwrap_or(0)
-}
-
-// Logs the row that a line had answered, if any.
+// Logs the row that a line had answered, if any, and answers how many bytes that takes. What cannot be written is left out.
 fn note<F: Field>(n: usize, came: &Result<Outcome, RequestFault>, log: &mut [u8]) -> usize
     requires { n ≤ 64 }
     ensures within { result ≤ length log.old }
@@ -64,7 +48,9 @@ fn note<F: Field>(n: usize, came: &Result<Outcome, RequestFault>, log: &mut [u8]
     ensures none { (Loggable F.model n (length log.old) came.now → ⊥) → (result ≡ 0) × (log.new ≡ log.old) }
 {
     match came {
-        Ok(Outcome::Answered(weights, figure)) => log_row::<F>(n, weights, *figure, log),
+        Ok(Outcome::Answered(weights, figure)) => {
+            write_row::<F>(n, &weights.0[..n], *figure, log).unwrap_or(0)
+        }
         _ => 0,
     }
 }
