@@ -10,3 +10,4 @@ pub mod Verdict
 pub mod Admitting
 pub mod Witnessing
 pub mod Padding
+pub mod Told

@@ -53,14 +53,12 @@ impl<F: Field> Record<F> {
         for row in self.rows.as_slice() {
             let mut cleared = row.row;
             cleared.clear::<F>(fresh, self.count);
-            let Some(_) = cleared.lowest_other(row.pivot, self.count) else {
+            if cleared.lowest_other(row.pivot, self.count).is_none() {
                 return Some(row.pivot);
-            };
+            }
         }
-        match fresh.row.lowest_other(fresh.pivot, self.count) {
-            Some(_) => None,
-            None => Some(fresh.pivot),
-        }
+        let other = fresh.row.lowest_other(fresh.pivot, self.count);
+        other.is_none().then_some(fresh.pivot)
     }
 
     // What a row with its figure would do to the record.

@@ -1,12 +1,14 @@
-use Rattle.std.proofs.Common.{◌≡◌, ℕ, ◌≤◌, length, get_or, sym, ◌∙◌, subst, arith, below_more}
+use Rattle.std.proofs.Common.{◌≡◌, ℕ, ◌≤◌, not, Option, MatchOption, length, get_or, sym, ap, ◌∙◌, subst, arith, below_more}
 use lib.ListN.{length-map}
 use Rattle.server.specs.Checks.{Lowest}
 use Rattle.echelon.specs.Reduced.{Pivoted}
+use Rattle.refusal.specs.declared.Member.{Member}
 use Rattle.record.specs.Rows.{figured_row, pivoted}
 use Rattle.record.specs.Records.{rec_of}
 use Rattle.record.specs.Judged.{AloneWith}
 use Rattle.record.proofs.Views.{facts_of, reduced_of, no_record_row}
 use Rattle.record.proofs.Alone.{alone-found, alone_missed, row_is_lowest, fresh_is_lowest, none_is, not_alone}
+use Rattle.record.proofs.Told.{none_told, some_told, told_of}
 use Rattle.record.proofs.record.Record.lowest_alone.Goals as goal
 
 pub clear-requires : goal.clear-requires
@@ -15,8 +17,8 @@ clear-requires g c =
     let here = facts_of r c.as_slice-row-items.result.now c.as_slice-row-items.ensures.value c.loop-row.row-index c.loop-row-test.true in
     record { few = r.members.1; pivot = c.requires.pivot; coded = here.coded; by_coded = c.requires.coded }
 
-pub returns-in_default : goal.returns-in_default
-returns-in_default g c =
+pub returns-then-is_none : goal.returns-then-is_none
+returns-then-is_none g c =
     let M = g.F.Field.model in
     let L = g.met.F.Field.laws in
     let r = c.args.self.now in
@@ -27,7 +29,7 @@ returns-in_default g c =
     let here = facts_of r c.as_slice-row-items.result.now c.as_slice-row-items.ensures.value a c.loop-row-test.true in
     let found =
     alone-found M L r.count (rec_of r) R r.none_alone e c.requires.pivot c.requires.coded c.requires.own c.requires.others
-    (figured_row c.clear.new.self) a (pivoted x) here.below here.is c.clear.ensures.is c.in_default.ensures in
+    (figured_row c.clear.new.self) a (pivoted x) here.below here.is c.clear.ensures.is (none_told _ _ _ (c.is_none.ensures ∙ ap not c.if-is_none.true) c.lowest_other.ensures) in
     subst (λ (y : Pivoted). Lowest (AloneWith M r.count (rec_of r) e) y.pivot) here.is
     (row_is_lowest M L r.count (rec_of r) R r.none_alone e c.requires.pivot c.requires.coded c.requires.own c.requires.others a here.below found c.loop-row.invariant)
 
@@ -41,26 +43,25 @@ loop-row-preserved g c =
     let R = reduced_of r in
     let x = get_or c.as_slice-row-items.result.now a no_record_row in
     let here = facts_of r c.as_slice-row-items.result.now c.as_slice-row-items.ensures.value a c.loop-row-test.true in
-    let other = c.in-Some.ensures in
+    let (m, other) = some_told _ _ _ (c.is_none.ensures ∙ ap not c.if-is_none.false) c.lowest_other.ensures in
     below_more _ _ c.loop-row.invariant
     (alone_missed M L r.count (rec_of r) R r.none_alone e c.requires.pivot c.requires.coded c.requires.own c.requires.others
-    (figured_row c.clear.new.self) a c.in-Some.field-0.0 (pivoted x) here.is c.clear.ensures.is other.0 other.1 other.2)
+    (figured_row c.clear.new.self) a m.0 (pivoted x) here.is c.clear.ensures.is other.0 other.1 other.2)
 
-pub returns-in-Some-lowest_other : goal.returns-in-Some-lowest_other
-returns-in-Some-lowest_other g c =
+pub returns : goal.returns
+returns g c =
     let M = g.F.Field.model in
+    let L = g.met.F.Field.laws in
     let r = c.args.self.now in
     let e = pivoted c.args.fresh.now in
-    let other = c.in-Some-lowest_other.ensures in
+    let none = AloneWith M r.count (rec_of r) e in
     let all : length (rec_of r) ≤ c.loop-row.row-index = simp length-map (omega (arith, c.as_slice-row-items.ensures.len)) in
-    none_is M g.met.F.Field.laws r.count (rec_of r) (reduced_of r) r.none_alone e c.requires.pivot c.requires.coded c.requires.own c.requires.others
-    (λ b h. c.loop-row.invariant b (omega arith)) (not_alone _ e.weights _ _ other.0 other.1 other.2)
-
-pub returns-in-None : goal.returns-in-None
-returns-in-None g c =
-    let M = g.F.Field.model in
-    let r = c.args.self.now in
-    let e = pivoted c.args.fresh.now in
-    let all : length (rec_of r) ≤ c.loop-row.row-index = simp length-map (omega (arith, c.as_slice-row-items.ensures.len)) in
-    fresh_is_lowest M g.met.F.Field.laws r.count (rec_of r) (reduced_of r) r.none_alone e c.requires.pivot c.requires.coded c.requires.own c.requires.others
-    (λ b h. c.loop-row.invariant b (omega arith)) (λ z. let one : ◌≡◌ {A = ℕ} 1 0 = sym c.requires.own ∙ z in omega arith, c.in-None.ensures)
+    subst (λ (o : Option Member). MatchOption o ((i : ℕ) → none i → ⊥) (λ i. Lowest none i.0)) (sym c.then_some.ensures)
+    (told_of _ _ ((i : ℕ) → none i → ⊥) (λ i. Lowest none i.0) c.args.fresh.now.pivot c.is_none-2.result c.lowest_other-other.result c.is_none-2.ensures
+    c.lowest_other-other.ensures
+    (λ alone.
+    fresh_is_lowest M L r.count (rec_of r) (reduced_of r) r.none_alone e c.requires.pivot c.requires.coded c.requires.own c.requires.others
+    (λ b h. c.loop-row.invariant b (omega arith)) (λ z. let one : ◌≡◌ {A = ℕ} 1 0 = sym c.requires.own ∙ z in omega arith, alone))
+    (λ m other.
+    none_is M L r.count (rec_of r) (reduced_of r) r.none_alone e c.requires.pivot c.requires.coded c.requires.own c.requires.others
+    (λ b h. c.loop-row.invariant b (omega arith)) (not_alone _ e.weights _ _ other.0 other.1 other.2)))
