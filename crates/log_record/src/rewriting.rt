@@ -3,7 +3,7 @@ ghost use Rattle.std.specs.Prelude.{◌≡◌, length, Some, None, MatchResult};
 ghost use Rattle.buffer.specs.Buffers.{Put};
 ghost use Rattle.log_record.specs.Rewrites.{Rewrites};
 
-use crate::reading::{ReadLog, read_record};
+use crate::reading::read_record;
 use answer_log::rewrite;
 use field::Field;
 use record::Room;

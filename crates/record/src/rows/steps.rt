@@ -16,7 +16,8 @@ pub fn minus<F: Field>(a: Element, b: Element) -> Element
     F::add(a, F::neg(b))
 }
 
-// `few` stays a clause of each: a type for the count would be unwrapped at every use of it.
+// `few` stays a clause: a type for the count, which contracts see as the number, was tried. Each use of the count then needs
+// an equation in the proofs, and the code a call.
 impl FiguredRow {
     // Takes away that multiple of `by` which leaves 0 at its pivot, over the first `n` members.
     pub(crate) fn clear<F: Field>(&mut self, by: &RecordRow, n: usize)

@@ -24,10 +24,7 @@ pub struct Resumed<S: Server> {
 fn issued_after(refusal: Option<Refusal>) -> u16
     ensures { result ≡ (after_log refusal []).permits_before }
 {
-    match refusal {
-        None => 0,
-        Some(_) => u16::MAX,
-    }
+    refusal.map_or(0, |_| u16::MAX)
 }
 
 impl<S: Server> Session<S> {
