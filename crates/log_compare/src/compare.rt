@@ -2,7 +2,7 @@
 use answer_log::rewrite;
 use field::Field;
 use log_record::{ReadLog, read_record};
-use record::{Record, RecordRow, Room, RowNumber};
+use record::{Record, Room, RowNumber};
 use std::alloc::{AllocError, Global};
 
 // What became of a damaged log.
@@ -14,17 +14,11 @@ pub(crate) enum Outcome {
     Otherwise,
 }
 
-fn same_row(a: &RecordRow, b: &RecordRow) -> bool {
-    a.pivot == b.pivot && a.row.weights == b.row.weights && a.row.figure == b.row.figure
-}
-
 fn same_rows<F: Field>(a: &Record<F>, b: &Record<F>) -> bool {
     a.row_count() == b.row_count()
-        && (0..a.row_count()).map(RowNumber).all(|k| {
-            a.row(k)
-                .zip(b.row(k))
-                .is_some_and(|(x, y)| same_row(&x, &y))
-        })
+        && (0..a.row_count())
+            .map(RowNumber)
+            .all(|k| a.row(k) == b.row(k))
 }
 
 // Whether a log is written again as the same bytes: two lines, which only a buffer of another length tells from those of

@@ -1,4 +1,5 @@
-// Two clients of a session: one has a row answered, one tries a row and takes it back.
+// Two clients of a session: one has a row answered, one tries a row and takes it back. They are what any client writes, and so
+// stand here and not in a crate below.
 ghost use Rattle.std.specs.Prelude.{◌≡◌};
 
 use field::Element;
