@@ -77,6 +77,7 @@ impl Reader<'_> {
     {
         let mut weights = Weights([Element(0); 64]);
         let mut at = start;
+        // No `for`: the next place is known only once an item was read.
         loop {
             let item = self.read_item(at, &weights)?;
             weights.0[item.member.0] = item.weight;

@@ -10,7 +10,7 @@ use field::{Element, Field};
 use refusal::{BytePlace, Member};
 
 // The most bytes of a line, but for a remark.
-const LONGEST: usize = 640;
+pub(crate) const LONGEST: usize = 640;
 
 // What a line wants.
 #[derive(Clone, Copy)]
@@ -40,10 +40,7 @@ impl Reader<'_> {
     fn read(&self) -> Result<Request, LineFault>
         ensures { result ≡ reading self.now.limits self.now.line.now }
     {
-        let Some(kind) = self.char_at(BytePlace(0)) else {
-            return Err(LineFault::NoKind);
-        };
-        match kind {
+        match self.char_at(BytePlace(0)).ok_or(LineFault::NoKind)? {
             '#' => Ok(Request::Remark),
             _ if self.line.len() > LONGEST => Err(LineFault::TooLong),
             'a' => Ok(Request::Ask(self.read_items(BytePlace(1))?)),

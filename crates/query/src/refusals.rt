@@ -3,6 +3,7 @@ ghost use Rattle.std.specs.Prelude.{◌≡◌};
 ghost use Rattle.query.specs.Refusals.{digit_refusal, number_refusal, item_refusal, line_refusal};
 
 use crate::faults::{DigitFault, ItemFault, LineFault, NumberFault};
+use crate::lines::LONGEST;
 use refusal::{BytePlace, Refusal};
 
 impl From<DigitFault> for Refusal {
@@ -43,7 +44,7 @@ impl From<LineFault> for Refusal {
 
     fn from(fault: LineFault) -> Refusal {
         match fault {
-            LineFault::TooLong => Refusal::LineTooLong(BytePlace(640)),
+            LineFault::TooLong => Refusal::LineTooLong(BytePlace(LONGEST)),
             LineFault::NoKind => Refusal::UnexpectedByte(BytePlace(0)),
             LineFault::Item(fault) => Refusal::from(fault),
             LineFault::NotEnded(place) => Refusal::UnexpectedByte(place),

@@ -19,9 +19,9 @@ impl fmt::Display for Listed<'_> {
         let Some((first, rest)) = self.elements.split_first() else {
             return Ok(());
         };
-        write!(f, "{}", first.0)?;
+        write!(f, "{first}")?;
         for element in rest {
-            write!(f, "{}{}", self.between, element.0)?;
+            write!(f, "{}{element}", self.between)?;
         }
         Ok(())
     }
@@ -41,6 +41,6 @@ impl fmt::Display for Row<'_> {
             elements: self.weights,
             between: ", ",
         };
-        write!(f, "({weights} : {})", self.figure.0)
+        write!(f, "({weights} : {})", self.figure)
     }
 }
