@@ -5,7 +5,7 @@ ghost use Rattle.answer_text.specs.AnswerLines.{reply_text, newline, answer_line
 
 use crate::answers::Answer;
 use crate::numbers::{put_elements, put_number, put_spaced, room_after_elements, spaced_length};
-use crate::pairs::{pair_length, put_pair};
+use crate::pairs::Pair;
 use buffer::digit_count;
 
 // The room that is left after the text of an answer; none where it does not fit.
@@ -16,7 +16,7 @@ fn room_after_text(answer: &Answer, room: usize) -> Option<usize>
         Answer::Figure(value) => room.checked_sub(1 + spaced_length(value.0 as usize)),
         Answer::Granted => room.checked_sub(1),
         Answer::Witness(elements) => room_after_elements(elements, room.checked_sub(1)?),
-        Answer::Refused(e) => room.checked_sub(pair_length(usize::from(e.number()), e.detail())),
+        Answer::Refused(e) => room.checked_sub(Pair::refused(e).length()),
     }
 }
 
@@ -38,7 +38,7 @@ fn put_text(answer: &Answer, out: &mut [u8]) -> usize
             out[0] = b'w';
             1 + put_elements(elements, &mut out[1..])
         }
-        Answer::Refused(e) => put_pair(b'-', usize::from(e.number()), e.detail(), out),
+        Answer::Refused(e) => Pair::refused(e).put(out),
     }
 }
 

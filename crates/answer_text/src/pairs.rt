@@ -7,34 +7,55 @@ ghost use Rattle.answer_text.specs.AnswerLines.{spaced, newline, refusal_line_le
 use crate::numbers::{put_spaced, spaced_length};
 use refusal::Refusal;
 
-// How many bytes a mark and two numbers take.
-pub(crate) fn pair_length(first: usize, second: usize) -> usize
-    ensures is { result ≡ 1 + length (spaced (first ∷ second ∷ [])) }
-    ensures few { result ≤ 43 }
-{
-    1 + spaced_length(first) + spaced_length(second)
+// A mark and two numbers.
+#[derive(Clone, Copy)]
+pub(crate) struct Pair {
+    mark: u8,
+    first: usize,
+    second: usize,
 }
 
-// Writes a mark and two numbers. Not by `put_elements`: they may be greater than the code of an element.
-pub(crate) fn put_pair(mark: u8, first: usize, second: usize, out: &mut [u8]) -> usize
-    requires { 1 + length (spaced (first ∷ second ∷ [])) ≤ length out.old }
-    ensures { Put (mark ∷ spaced (first ∷ second ∷ [])) out.old out.new result }
-{
-    out[0] = mark;
-    let at = 1 + put_spaced(first, &mut out[1..]);
-    at + put_spaced(second, &mut out[at..])
-}
-
-// Writes a line of a mark and two numbers.
-fn write_pair(mark: u8, first: usize, second: usize, out: &mut [u8]) -> Option<usize>
-    ensures { Writes (mark ∷ (spaced (first ∷ second ∷ []) ++ newline)) out.old out.new result }
-{
-    if out.len() < pair_length(first, second) + 1 {
-        return None;
+impl Pair {
+    // A refusal's number, and what comes with it.
+    pub(crate) fn refused(refusal: &Refusal) -> Pair
+        ensures { result ≡ record { mark = 45; first = number refusal.now; second = detail refusal.now } }
+    {
+        Pair {
+            mark: b'-',
+            first: usize::from(refusal.number()),
+            second: refusal.detail(),
+        }
     }
-    let at = put_pair(mark, first, second, out);
-    out[at] = b'\n';
-    Some(at + 1)
+
+    // How many bytes the mark and the numbers take.
+    pub(crate) fn length(self) -> usize
+        ensures is { result ≡ 1 + length (spaced (self.first ∷ self.second ∷ [])) }
+        ensures few { result ≤ 43 }
+    {
+        1 + spaced_length(self.first) + spaced_length(self.second)
+    }
+
+    // Writes the mark and the numbers. Not by `put_elements`: they may be greater than the code of an element.
+    pub(crate) fn put(self, out: &mut [u8]) -> usize
+        requires { 1 + length (spaced (self.first ∷ self.second ∷ [])) ≤ length out.old }
+        ensures { Put (self.mark ∷ spaced (self.first ∷ self.second ∷ [])) out.old out.new result }
+    {
+        out[0] = self.mark;
+        let at = 1 + put_spaced(self.first, &mut out[1..]);
+        at + put_spaced(self.second, &mut out[at..])
+    }
+
+    // Writes them as a line.
+    fn write(self, out: &mut [u8]) -> Option<usize>
+        ensures { Writes (self.mark ∷ (spaced (self.first ∷ self.second ∷ []) ++ newline)) out.old out.new result }
+    {
+        if out.len() < self.length() + 1 {
+            return None;
+        }
+        let at = self.put(out);
+        out[at] = b'\n';
+        Some(at + 1)
+    }
 }
 
 // Writes the line of a refused table file to the front of `out`, and answers how many bytes it has. Where it does not
@@ -42,12 +63,17 @@ fn write_pair(mark: u8, first: usize, second: usize, out: &mut [u8]) -> Option<u
 pub fn write_refusal(refusal: &Refusal, out: &mut [u8]) -> Option<usize>
     ensures { Writes (refusal_line_lem (number refusal.now) (detail refusal.now)) out.old out.new result }
 {
-    write_pair(b'-', usize::from(refusal.number()), refusal.detail(), out)
+    Pair::refused(refusal).write(out)
 }
 
 // Writes the line of a stop before a line of query text, in the same way.
 pub fn write_stop(stop: &Refusal, line: usize, out: &mut [u8]) -> Option<usize>
     ensures { Writes (stop_line_lem (number stop.now) line) out.old out.new result }
 {
-    write_pair(b'!', usize::from(stop.number()), line, out)
+    let pair = Pair {
+        mark: b'!',
+        first: usize::from(stop.number()),
+        second: line,
+    };
+    pair.write(out)
 }

@@ -9,53 +9,178 @@ use std::io;
 const TWO: &[u8] = b"a 0 1\na 1 2\n";
 
 const TEXTS: [Case; 6] = [
-    Case("no text", b"", 1000, 500),
-    Case("no text, no answers, a log of 2", b"", 0, 2),
-    Case("one newline", b"\n", 1000, 500),
-    Case("one line without its newline", b"a 0 1", 1000, 500),
-    Case("a remark without its newline", b"a 0 1\n# and", 1000, 500),
-    Case("remarks alone", b"#\n# hours\n", 1000, 500),
+    Case {
+        name: "no text",
+        text: b"",
+        answers: 1000,
+        log: 500,
+    },
+    Case {
+        name: "no text, no answers, a log of 2",
+        text: b"",
+        answers: 0,
+        log: 2,
+    },
+    Case {
+        name: "one newline",
+        text: b"\n",
+        answers: 1000,
+        log: 500,
+    },
+    Case {
+        name: "one line without its newline",
+        text: b"a 0 1",
+        answers: 1000,
+        log: 500,
+    },
+    Case {
+        name: "a remark without its newline",
+        text: b"a 0 1\n# and",
+        answers: 1000,
+        log: 500,
+    },
+    Case {
+        name: "remarks alone",
+        text: b"#\n# hours\n",
+        answers: 1000,
+        log: 500,
+    },
 ];
 
 const ANSWERS: [Case; 7] = [
-    Case("answers of 0", TWO, 0, 500),
-    Case("answers of 391", TWO, 391, 500),
-    Case("answers of 392", TWO, 392, 500),
-    Case("answers of 399", TWO, 399, 500),
-    Case("answers of 400", TWO, 400, 500),
-    Case("answers of 391, a remark", b"# hours\n", 391, 500),
-    Case(
-        "answers of 392, a remark first",
-        b"# hours\na 0 1\n",
-        392,
-        500,
-    ),
+    Case {
+        name: "answers of 0",
+        text: TWO,
+        answers: 0,
+        log: 500,
+    },
+    Case {
+        name: "answers of 391",
+        text: TWO,
+        answers: 391,
+        log: 500,
+    },
+    Case {
+        name: "answers of 392",
+        text: TWO,
+        answers: 392,
+        log: 500,
+    },
+    Case {
+        name: "answers of 399",
+        text: TWO,
+        answers: 399,
+        log: 500,
+    },
+    Case {
+        name: "answers of 400",
+        text: TWO,
+        answers: 400,
+        log: 500,
+    },
+    Case {
+        name: "answers of 391, a remark",
+        text: b"# hours\n",
+        answers: 391,
+        log: 500,
+    },
+    Case {
+        name: "answers of 392, a remark first",
+        text: b"# hours\na 0 1\n",
+        answers: 392,
+        log: 500,
+    },
 ];
 
 const LOGS: [Case; 10] = [
-    Case("log of 0", TWO, 1000, 0),
-    Case("log of 1", TWO, 1000, 1),
-    Case("log of 1, no text", b"", 1000, 1),
-    Case("log of 2", TWO, 1000, 2),
-    Case("log of 140", TWO, 1000, 140),
-    Case("log of 141", TWO, 1000, 141),
-    Case("log of 144", TWO, 1000, 144),
-    Case("log of 145", TWO, 1000, 145),
-    Case("log of 140, a remark", b"# hours\n", 1000, 140),
-    Case(
-        "log of 141, a refused line first",
-        b"a 3\na 0 1\n",
-        1000,
-        141,
-    ),
+    Case {
+        name: "log of 0",
+        text: TWO,
+        answers: 1000,
+        log: 0,
+    },
+    Case {
+        name: "log of 1",
+        text: TWO,
+        answers: 1000,
+        log: 1,
+    },
+    Case {
+        name: "log of 1, no text",
+        text: b"",
+        answers: 1000,
+        log: 1,
+    },
+    Case {
+        name: "log of 2",
+        text: TWO,
+        answers: 1000,
+        log: 2,
+    },
+    Case {
+        name: "log of 140",
+        text: TWO,
+        answers: 1000,
+        log: 140,
+    },
+    Case {
+        name: "log of 141",
+        text: TWO,
+        answers: 1000,
+        log: 141,
+    },
+    Case {
+        name: "log of 144",
+        text: TWO,
+        answers: 1000,
+        log: 144,
+    },
+    Case {
+        name: "log of 145",
+        text: TWO,
+        answers: 1000,
+        log: 145,
+    },
+    Case {
+        name: "log of 140, a remark",
+        text: b"# hours\n",
+        answers: 1000,
+        log: 140,
+    },
+    Case {
+        name: "log of 141, a refused line first",
+        text: b"a 3\na 0 1\n",
+        answers: 1000,
+        log: 141,
+    },
 ];
 
 // Two stops at once: the earlier check counts.
 const BOTH: [Case; 4] = [
-    Case("answers of 391, log of 140", TWO, 391, 140),
-    Case("answers of 391, log of 1", TWO, 391, 1),
-    Case("answers of 391, no newline", b"a 0 1", 391, 500),
-    Case("log of 140, no newline", b"a 0 1", 1000, 140),
+    Case {
+        name: "answers of 391, log of 140",
+        text: TWO,
+        answers: 391,
+        log: 140,
+    },
+    Case {
+        name: "answers of 391, log of 1",
+        text: TWO,
+        answers: 391,
+        log: 1,
+    },
+    Case {
+        name: "answers of 391, no newline",
+        text: b"a 0 1",
+        answers: 391,
+        log: 500,
+    },
+    Case {
+        name: "log of 140, no newline",
+        text: b"a 0 1",
+        answers: 1000,
+        log: 140,
+    },
 ];
 
 // Each over a session of its own.
@@ -71,7 +196,12 @@ fn long_text(rt: &HostRuntime, name: &str, length: usize, log: usize) -> io::Res
     let mut text = vec![in rt.alloc(); b'#'; length]?;
     text.pop();
     text.push(b'\n')?;
-    let case = Case(name, text.as_slice(), 1000, log);
+    let case = Case {
+        name,
+        text: text.as_slice(),
+        answers: 1000,
+        log,
+    };
     replays::over::<Amounts>(rt, &WAGES, &[case])
 }
 

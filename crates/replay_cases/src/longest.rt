@@ -35,14 +35,24 @@ fn apart(heap: Global) -> Result<String, AllocError> {
 // A row of 139 bytes, for which there are 139.
 fn longest_row(rt: &HostRuntime) -> io::Result<()> {
     let text = weighted(rt.alloc())?;
-    let case = Case("the longest row in the log", text.as_bytes(), 392, 141);
+    let case = Case {
+        name: "the longest row in the log",
+        text: text.as_bytes(),
+        answers: 392,
+        log: 141,
+    };
     replays::over::<Amounts>(rt, &ONES, &[case])
 }
 
 // 432 bytes of answers, and then a line of 392 bytes, for which there are 392.
 fn longest_line(rt: &HostRuntime) -> io::Result<()> {
     let text = apart(rt.alloc())?;
-    let case = Case("the longest line of answers", text.as_bytes(), 824, 2000);
+    let case = Case {
+        name: "the longest line of answers",
+        text: text.as_bytes(),
+        answers: 824,
+        log: 2000,
+    };
     replays::over::<Amounts>(rt, &ONES, &[case])
 }
 

@@ -11,19 +11,27 @@ use session::Session;
 use shown::Refused;
 use std::io;
 
-// The name, the text, and the bytes of both buffers: of the answers, and of the log. A tuple struct, so that a list of
-// cases has one line for each: a constant cannot call a function that would make one.
+// A text with its name, and the bytes of both buffers.
 #[derive(Clone, Copy)]
-pub(crate) struct Case<'a>(pub &'a str, pub &'a [u8], pub usize, pub usize);
+pub(crate) struct Case<'a> {
+    pub name: &'a str,
+    pub text: &'a [u8],
+    pub answers: usize,
+    pub log: usize,
+}
 
 fn one<S: Server>(rt: &HostRuntime, session: &mut Session<S>, case: Case) -> io::Result<()>
     ensures server { session.new.server ≡ session.old.server }
 {
-    let Case(name, text, answers, log) = case;
-    let mut answers = vec![in rt.alloc(); MARK; answers]?;
-    let mut log = vec![in rt.alloc(); MARK; log]?;
-    let done = replay(session, text, answers.as_mut_slice(), log.as_mut_slice());
-    show::replayed(rt, name, &done, answers.as_slice(), log.as_slice())
+    let mut answers = vec![in rt.alloc(); MARK; case.answers]?;
+    let mut log = vec![in rt.alloc(); MARK; case.log]?;
+    let done = replay(
+        session,
+        case.text,
+        answers.as_mut_slice(),
+        log.as_mut_slice(),
+    );
+    show::replayed(rt, case.name, &done, answers.as_slice(), log.as_slice())
 }
 
 fn texts<S: Server>(rt: &HostRuntime, session: &mut Session<S>, cases: &[Case]) -> io::Result<()> {

@@ -10,34 +10,34 @@ pub(crate) const WAGES: [Element; 3] = [Element(120), Element(95), Element(70)];
 
 const VISITS: [Element; 3] = [Element(12), Element(10), Element(7)];
 
-const HOURS: Case = Case(
-    "the worked replay",
-    b"# hours\na 0 1\na 1 2\nt 0 2\nw 0 0\na 0:2 1:2\na 3\n",
-    1000,
-    500,
-);
+const HOURS: Case = Case {
+    name: "the worked replay",
+    text: b"# hours\na 0 1\na 1 2\nt 0 2\nw 0 0\na 0:2 1:2\na 3\n",
+    answers: 1000,
+    log: 500,
+};
 
-const ROUNDS: Case = Case(
-    "a replay over ticks",
-    b"a 0 1\na 1 2\na 0 2\nt 0 1 2\nw 0 0\nt 0:2 1:2\na 0:3 1:3\na 2:256\n",
-    1000,
-    500,
-);
+const ROUNDS: Case = Case {
+    name: "a replay over ticks",
+    text: b"a 0 1\na 1 2\na 0 2\nt 0 1 2\nw 0 0\nt 0:2 1:2\na 0:3 1:3\na 2:256\n",
+    answers: 1000,
+    log: 500,
+};
 
 // A stop in the last line. Of the lines before it the session keeps what it answered.
-const STOPPED: Case = Case(
-    "a last line without its newline",
-    b"a 0 1\na 1 2\na 0 2",
-    1000,
-    500,
-);
+const STOPPED: Case = Case {
+    name: "a last line without its newline",
+    text: b"a 0 1\na 1 2\na 0 2",
+    answers: 1000,
+    log: 500,
+};
 
-const AFTER: Case = Case(
-    "a second text over that session",
-    b"a 0 2\nw 0 0\n",
-    1000,
-    500,
-);
+const AFTER: Case = Case {
+    name: "a second text over that session",
+    text: b"a 0 2\nw 0 0\n",
+    answers: 1000,
+    log: 500,
+};
 
 pub(crate) fn run(rt: &HostRuntime) -> io::Result<()> {
     replays::over::<Amounts>(rt, &WAGES, &[HOURS])?;

@@ -6,7 +6,7 @@ ghost use Rattle.request.specs.declared.faults.RequestFault.TheVariants.{Line, C
 use query::LineFault;
 use refusal::Refusal;
 
-#[derive(Clone, Copy)]
+#[derive(Clone, Copy, PartialEq, Eq, Debug)]
 pub enum RequestFault {
     Line(LineFault),
     Call(Refusal),
