@@ -91,7 +91,8 @@ impl<F: Field> Row<'_, F> {
         ensures length { result ≡ length (weight_bytes F.model (weights_of self.now.weights.now) (length self.now.weights.now)) }
         ensures buffer { out.new ≡ weight_bytes F.model (weights_of self.now.weights.now) (length self.now.weights.now) ++ drop result out.old }
     {
-        // The rest of the buffer is lent for each weight, so the place is counted beside the loop.
+        // Tried, and not proved: the named weights zipped with `out.chunks_exact_mut(width)`. The check could not state that
+        // loop's invariant, and after such parts a proof knows the buffer's length alone. So the rest is lent for each weight.
         let mut at = 0;
         for weight in self.weights {
             if weight.0 != 0 {

@@ -84,7 +84,8 @@ impl RowBytes<'_> {
         Ok(place)
     }
 
-    // The weight of a named member.
+    // The weight of a named member. Not one with a table file's value: they begin at different places, and an unnamed member
+    // there, like a plain row here, has a value that is not stored.
     fn named_weight<F: Field>(&self, m: u8) -> Element
         requires some { 1 ≤ length self.now.bytes.now }
         requires bit { named (map_of self.now.bytes.now) m ≡ true }

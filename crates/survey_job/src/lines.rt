@@ -9,7 +9,8 @@ use refusal::Refusal;
 use replay_text::Stop;
 use std::alloc::{AllocError, Global};
 
-// The most bytes of a mark, two numbers of 20 digits after a space each, and a newline.
+// The most bytes of a mark, two numbers of 20 digits after a space each, and a newline. A line is made in so many bytes and
+// cut to its length, for the writers write to a lent slice.
 const LONGEST: usize = 44;
 
 // The line of a refused table file, whose refusals come with a member or a map bit at most.
