@@ -2,34 +2,40 @@
 use field::{Element, Field};
 use query::{LineFault, Request, Weights, read_line};
 use refusal::Refusal;
-use std::io;
+use std::{fmt, io};
 
 // Each named member with its weight.
-fn weights(rt: &HostRuntime, kind: &str, row: &Weights) -> io::Result<()> {
-    print!(rt; "{kind}")?;
-    for (m, weight) in row.0.iter().enumerate() {
-        if *weight != Element(0) {
-            print!(rt; " {m}:{weight}")?;
+#[derive(Clone, Copy)]
+struct Weighted<'a>(&'a Weights);
+
+impl fmt::Display for Weighted<'_> {
+    fn fmt<W: fmt::Write>(&self, f: &mut fmt::Formatter<W>) -> fmt::Result {
+        for (m, weight) in self.0.0.iter().enumerate() {
+            if *weight != Element(0) {
+                write!(f, " {m}:{weight}")?;
+            }
         }
+        Ok(())
     }
-    println!(rt; "")
 }
 
 // What a line wants, or its fault as a number and a place.
-fn answer(rt: &HostRuntime, read: &Result<Request, LineFault>) -> io::Result<()> {
-    match read {
-        Ok(Request::Ask(row)) => weights(rt, "ok, asks", row),
-        Ok(Request::Try(row)) => weights(rt, "ok, tries", row),
-        Ok(Request::Witness(member, element)) => {
-            let number = member.0;
-            println!(rt; "ok, witness {number} {element}")
-        }
-        Ok(Request::Remark) => println!(rt; "ok, remark"),
-        Err(fault) => {
-            let refusal = Refusal::from(*fault);
-            let number = refusal.number();
-            let place = refusal.detail();
-            println!(rt; "{number} {place}")
+#[derive(Clone, Copy)]
+struct Read<'a>(&'a Result<Request, LineFault>);
+
+impl fmt::Display for Read<'_> {
+    fn fmt<W: fmt::Write>(&self, f: &mut fmt::Formatter<W>) -> fmt::Result {
+        match self.0 {
+            Ok(Request::Ask(row)) => write!(f, "ok, asks{}", Weighted(row)),
+            Ok(Request::Try(row)) => write!(f, "ok, tries{}", Weighted(row)),
+            Ok(Request::Witness(member, element)) => {
+                write!(f, "ok, witness {} {element}", member.0)
+            }
+            Ok(Request::Remark) => f.write_str("ok, remark"),
+            Err(fault) => {
+                let refusal = Refusal::from(*fault);
+                write!(f, "{} {}", refusal.number(), refusal.detail())
+            }
         }
     }
 }
@@ -41,8 +47,7 @@ pub(crate) fn named<F: Field>(
     line: &[u8],
     n: usize,
 ) -> io::Result<()> {
-    print!(rt; "{case}: ")?;
-    answer(rt, &read_line::<F>(line, n))
+    println!(rt; "{case}: {}", Read(&read_line::<F>(line, n)))
 }
 
 // Each case by its name and its line.
@@ -54,8 +59,8 @@ pub(crate) fn all<F: Field>(
 ) -> io::Result<()> {
     println!(rt; "{title}")?;
     for (case, line) in cases {
-        print!(rt; "{case} {line:?}: ")?;
-        answer(rt, &read_line::<F>(line.as_bytes(), n))?;
+        let read = read_line::<F>(line.as_bytes(), n);
+        println!(rt; "{case} {line:?}: {}", Read(&read))?;
     }
     Ok(())
 }

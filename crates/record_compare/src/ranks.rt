@@ -9,7 +9,7 @@ use refusal::{Member, Refusal, Site};
 use std::alloc::{AllocError, Global};
 use std::array;
 
-// How a row stands to the rows before it.
+// How a row stands to the rows before it. No Result: judging and admitting refuse different ones of these.
 #[derive(Clone, Copy)]
 pub(crate) enum Verdict {
     NamesNobody,
