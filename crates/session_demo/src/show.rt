@@ -15,7 +15,7 @@ impl fmt::Display for Named<'_> {
             match weight.0 {
                 0 => {}
                 1 => write!(f, " {m}")?,
-                code => write!(f, " {m}:{code}")?,
+                _ => write!(f, " {m}:{weight}")?,
             }
         }
         Ok(())
