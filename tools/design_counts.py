@@ -24,7 +24,6 @@ COUNTS = [
     ("4", "a function that converts or prints by hand", r"fn (refusal|show\w*|print\w*|refused|put_\w+|write_\w+)\b"),
     ("5", "a requires", r"^\s*requires\b"),
     ("6", "an array of fixed length in a type", r":\s*\[[\w<>]+; \w+\]|-> .*\[[\w<>]+; \w+\]|\(\[[\w<>]+; \w+\]\)"),
-    ("6", "a search through a list by hand", r"row\.pivot\.0 (>=|==) "),
     ("7", "a function pointer, a closure's bound or a dyn", r"\bfn\(|\bdyn \w|impl Fn|: Fn(Mut|Once)?\("),
     ("7", "a case by a number", r"^\s*\d+ => "),
 ]
