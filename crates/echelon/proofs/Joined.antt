@@ -8,12 +8,13 @@ use native.Mathlib.Decide.{ℕ_discrete, dec_lt}
 use native.Mathlib.Omega.{arith}
 use lib.ListN.{length, take, drop, length-map}
 use Rattle.field.specs.Model.{FieldModel, FieldLaws}
+use Rattle.field.proofs.Zero.{zero-code}
 use Rattle.echelon.specs.Rows.{Vector, Codes, Figured, rows_of, Agree, Fits}
 use Rattle.echelon.specs.Reduced.{Pivoted, figured, all_figured, at, Reduced}
 use Rattle.echelon.specs.Elimination.{leftover, scaled, with_pivot, pivot_cleared, joined}
 use Rattle.echelon.specs.Theorems.{JoinedForm}
 use Rattle.echelon.proofs.Field.{times_zero, zero_right, factor_away}
-use Rattle.echelon.proofs.Codes.{field_of, elt, elt_path, elt_zero, elt_times, elt_inverse, elt_nonzero, zero-code}
+use Rattle.echelon.proofs.Codes.{field_of, elt, elt_path, elt_zero, elt_times, elt_inverse, elt_nonzero}
 use Rattle.echelon.proofs.Indexed.{fits-at, at-fits, agree_at, at_agree}
 use Rattle.echelon.proofs.Values.{FigCodes, AllCodes, all_codes, value, Kills, cleared-codes, cleared_value, scaled-codes, scaled_value, less_none, less_self, leftover_value, fit_value, between, agree_value}
 use Rattle.echelon.proofs.Leftover.{left-codes, left-pivot}

@@ -13,14 +13,14 @@ use Rattle.query.specs.declared.items.Weights.{Weights}
 use Rattle.query.specs.declared.lines.Request.{Request}
 use Rattle.query.specs.declared.lines.Request.TheVariants.{Ask, Try, Witness, Remark}
 use Rattle.query.specs.Items.{code, no_weights, weight_of, read_spaced_lem, items_in, read_items_lem}
-use Rattle.query.specs.Lines.{of_line, read_witness_lem, by_kind, reading}
+use Rattle.query.specs.Lines.{read_witness_lem, by_kind, reading}
 use Rattle.query.specs.Grammar.{Entry, alone, weighted, member, weight, text, InRange, Named, with_weights, Spells, ask, try, witness, remark, Accepted}
 use Rattle.query.proofs.Bytes.{stands-front}
 use Rattle.query.proofs.Checks.{ok_same, past_fault, number_ok}
 use Rattle.query.proofs.Decimals.{was_decimal}
 use Rattle.query.proofs.ItemChecks as items
 use Rattle.query.proofs.ItemChecks.{Weighed, then_ok, spaced_ok, item_ok, item_moves}
-use Rattle.query.proofs.LineChecks.{rows, kind-ask, kind-try, kind-witness, kind_none, reading-remark, reading_long, reading-short}
+use Rattle.query.proofs.LineChecks.{of_line_ok, rows, kind-ask, kind-try, kind-witness, kind_none, reading-remark, reading_long, reading-short}
 
 pub spaced_was :
     (limit : ℕ) (line : List ℕ) (p : ℕ) (x : Numeral) → read_spaced_lem limit line p ≡ Ok x
@@ -159,10 +159,6 @@ module _ (lim : Limits) (few : lim.members ≤ 64) (line : List ℕ) where
       (p : ℕ) (ws : Weights) → read_items_lem lim no_weights line p ≡ Ok ws → Entries lim no_weights (drop p line) ws.0
   unfolding read_items_lem
   rows_were p ws e = items_were (length line - p) no_weights p ws refl e
-
-pub of_line_ok : {A : Type 0} (r : Result A ItemFault) (x : A) → of_line r ≡ Ok x → r ≡ Ok x
-of_line_ok (Ok y) x e = ap Ok (ok_same _ _ e)
-of_line_ok (Err f) x e = absurd (let z : ◌≡◌ {A = ℕ} 0 1 = cc in omega arith)
 
 rows_ok :
     (make : Weights → Request) (r : Result Weights ItemFault) (q : Request) → rows make r ≡ Ok q
