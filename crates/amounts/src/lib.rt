@@ -53,6 +53,11 @@ impl Field for Amounts {
         Element(a.0 * b.0 % SIZE)
     }
 
+    // One remainder for both steps, with no branch: the sum needs 64 bits at most.
+    fn mul_add(a: Element, b: Element, c: Element) -> Element {
+        reduced(u64::from(c.0) + u64::from(a.0) * u64::from(b.0))
+    }
+
     fn neg(a: Element) -> Element {
         if a.0 == 0 {
             return Element(0);

@@ -6,7 +6,7 @@ use Prim.Native.Nat.{ℕ, zero, suc, ◌<◌, Fin}
 use native.Mathlib.Decide.{dec_lt}
 use native.Mathlib.Omega.{arith}
 use Rattle.field.specs.Model.{FieldModel, FieldLaws}
-use Rattle.field.proofs.Zero.{zero-code}
+pub use Rattle.field.proofs.Zero.{zero-code}
 use Rattle.echelon.specs.Rows.{Vector, Codes, minus, sum}
 use Rattle.echelon.proofs.Field.{Field, total, total_cong, total_linear, table_linear, one_term, two_terms, zero-times, times_zero, zero_right, total_zero}
 

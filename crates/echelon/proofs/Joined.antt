@@ -8,15 +8,14 @@ use native.Mathlib.Decide.{ℕ_discrete, dec_lt}
 use native.Mathlib.Omega.{arith}
 use lib.ListN.{length, take, drop, length-map}
 use Rattle.field.specs.Model.{FieldModel, FieldLaws}
-use Rattle.field.proofs.Zero.{zero-code}
 use Rattle.echelon.specs.Rows.{Vector, Codes, Figured, rows_of, Agree, Fits}
 use Rattle.echelon.specs.Reduced.{Pivoted, figured, all_figured, at, Reduced}
 use Rattle.echelon.specs.Elimination.{leftover, scaled, with_pivot, pivot_cleared, joined}
 use Rattle.echelon.specs.Theorems.{JoinedForm}
 use Rattle.echelon.proofs.Field.{times_zero, zero_right, factor_away}
-use Rattle.echelon.proofs.Codes.{field_of, elt, elt_path, elt_zero, elt_times, elt_inverse, elt_nonzero}
+use Rattle.echelon.proofs.Codes.{field_of, elt, elt_inverse, elt_nonzero}
 use Rattle.echelon.proofs.Indexed.{fits-at, at-fits, agree_at, at_agree}
-use Rattle.echelon.proofs.Values.{FigCodes, AllCodes, all_codes, value, Kills, cleared-codes, cleared_value, scaled-codes, scaled_value, less_none, less_self, leftover_value, fit_value, between, agree_value}
+use Rattle.echelon.proofs.Values.{FigCodes, AllCodes, all_codes, value, Kills, cleared-codes, cleared_value, scaled-codes, scaled_value, times_nothing, less_none, less_self, leftover_value, fit_value, between, agree_value}
 use Rattle.echelon.proofs.Leftover.{left-codes, left-pivot}
 
 -- x put in before place k of the rows that f makes
@@ -103,10 +102,7 @@ module _ (M : FieldModel) (L : FieldLaws M) (n : ℕ) (rec : List Pivoted) (R : 
   fresh-own = L.times_comm factor (left.row p) factor-code (left_c.0 p below) ∙ L.times_inverse (left.row p) (left_c.0 p below) named
 
   fresh_none : (m : ℕ) → left.row m ≡ 0 → fresh.weights m ≡ 0
-  fresh_none m e =
-      ap (M.times factor) e
-      ∙ elt_path M L (M.times factor 0) 0 (L.times_below factor 0 factor-code (zero-code M L)) (zero-code M L)
-      (elt_times M L factor 0 factor-code (zero-code M L) ∙ ap (λ x. elt M L factor ⊗ x) (elt_zero M L) ∙ times_zero (field_of M L) (elt M L factor) ∙ sym (elt_zero M L))
+  fresh_none m e = ap (M.times factor) e ∙ times_nothing M L n factor factor-code
 
   pub fresh-pivot : (a : ℕ) → a < length rec → fresh.weights (at rec a).pivot ≡ 0
   fresh-pivot a b = fresh_none (at rec a).pivot (left-pivot M L n rec R g cg a b)

@@ -14,7 +14,7 @@ use Rattle.echelon.specs.Rows.{Vector, Codes, minus, sum, Figured}
 use Rattle.echelon.specs.Reduced.{Pivoted, figured, at, Reduced}
 use Rattle.echelon.specs.Elimination.{cleared, leftover, scaled}
 use Rattle.echelon.proofs.Field.{total, total_cong, total_linear, total_zero, one_term, plus_linear, row_linear, table_linear, zero_right, times_zero, zero-times, one_right, times_neg_one, neg_times, neg_zero, difference_zero}
-use Rattle.echelon.proofs.Codes.{field_of, elt, elt_path, elt_zero, elt_one, elt_times, elt_minus, sum_below, elt_sum, minus-below}
+use Rattle.echelon.proofs.Codes.{field_of, elt, elt_path, elt_zero, elt_one, elt_plus, elt_times, elt_opposite, elt_minus, sum_below, elt_sum, minus-below}
 use Rattle.echelon.proofs.Indexed.{by_test}
 
 -- the row and its figure are elements
@@ -63,6 +63,22 @@ module _ (M : FieldModel) (L : FieldLaws M) (n : ℕ) where
 
   pub less_below : (a b c : ℕ) → a < M.size → b < M.size → c < M.size → minus M a (M.times b c) < M.size
   less_below a b c ha hb hc = minus-below M L a (M.times b c) ha (L.times_below b c hb hc)
+
+  pub times_nothing : (c : ℕ) → c < M.size → M.times c 0 ≡ 0
+  times_nothing c hc =
+      elt_path M L (M.times c 0) 0 (L.times_below c 0 hc (zero-code M L)) (zero-code M L)
+      (elt_times M L c 0 hc (zero-code M L) ∙ ap (λ x. elt M L c ⊗ x) (elt_zero M L) ∙ times_zero (field_of M L) (elt M L c) ∙ sym (elt_zero M L))
+
+  -- taking a product away adds the one with the opposite factor
+  pub plus_opposite_times :
+      (a b c : ℕ) → a < M.size → b < M.size → c < M.size → M.plus a (M.times (M.opposite b) c) ≡ minus M a (M.times b c)
+  plus_opposite_times a b c ha hb hc =
+      let away = L.opposite_below b hb in
+      elt_path M L (M.plus a (M.times (M.opposite b) c)) (minus M a (M.times b c))
+      (L.plus_below a (M.times (M.opposite b) c) ha (L.times_below (M.opposite b) c away hc)) (less_below a b c ha hb hc)
+      (elt_plus M L a (M.times (M.opposite b) c) ha (L.times_below (M.opposite b) c away hc)
+      ∙ ap (λ x. elt M L a ⊕ x) (elt_times M L (M.opposite b) c away hc ∙ ap (λ x. x ⊗ elt M L c) (elt_opposite M L b hb))
+      ∙ sym (elt_less a b c ha hb hc))
 
   -- a product with 0 takes nothing away, and an element taken away from itself leaves 0
   pub less_none : (a b c : ℕ) → a < M.size → b < M.size → c < M.size → (b ≡ 0) ⊎ (c ≡ 0) → minus M a (M.times b c) ≡ a

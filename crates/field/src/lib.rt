@@ -39,6 +39,14 @@ pub trait Field {
         ensures is { result.0 ≡ model.times a.0 b.0 }
         ensures within { result.0 < model.size };
 
+    // The product of the first two, and the third.
+    fn mul_add(a: Element, b: Element, c: Element) -> Element
+        ensures is { result.0 ≡ model.plus c.0 (model.times a.0 b.0) }
+        ensures within { result.0 < model.size }
+    {
+        Self::add(c, Self::mul(a, b))
+    }
+
     fn neg(a: Element) -> Element
         ensures is { result.0 ≡ model.opposite a.0 }
         ensures within { result.0 < model.size };

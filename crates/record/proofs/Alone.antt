@@ -4,11 +4,10 @@ use native.Mathlib.Decide.{ℕ_discrete, dec_lt}
 use Rattle.field.specs.Model.{FieldModel, FieldLaws}
 use Rattle.field.specs.Sums.{Vector}
 use Rattle.server.specs.Checks.{Lowest}
-use Rattle.echelon.specs.Rows.{Figured}
 use Rattle.echelon.specs.Reduced.{Pivoted, at, figured, Alone, Reduced}
 use Rattle.echelon.specs.Elimination.{cleared, pivot_cleared}
 use Rattle.echelon.proofs.Values.{less_none}
-use Rattle.record.specs.Rows.{SameRow, CodedRow}
+use Rattle.record.specs.Rows.{CodedRow}
 use Rattle.record.specs.Shapes.{NoneAlone}
 use Rattle.record.specs.Judged.{AloneWith}
 
@@ -38,19 +37,18 @@ module _
   AloneAt a = Alone n (cleared_weights a) (at rec a).pivot
 
   pub alone-found :
-      (g : Figured) (a : ℕ) (x : Pivoted) → a < length rec → at rec a ≡ x → SameRow n g (cleared M e (figured x))
-      → ((m : ℕ) → m < n → m ≢ x.pivot → g.row m ≡ 0) → AloneAt a
-  alone-found g a x h is same zero = (
+      (a : ℕ) (x : Pivoted) → a < length rec → at rec a ≡ x
+      → ((m : ℕ) → m < n → m ≢ x.pivot → (cleared M e (figured x)).row m ≡ 0) → AloneAt a
+  alone-found a x h is zero = (
     λ z. let one : ◌≡◌ {A = ℕ} 1 0 = sym (still_one a h) ∙ z in omega arith,
     λ m b ne.
-        ap (λ y. (cleared M e (figured y)).row m) is ∙ sym (same.rows m b) ∙ zero m b (λ z. ne (z ∙ ap (λ y. y.pivot) (sym is))),
+        ap (λ y. (cleared M e (figured y)).row m) is ∙ zero m b (λ z. ne (z ∙ ap (λ y. y.pivot) (sym is))),
   )
 
   pub alone_missed :
-      (g : Figured) (a p : ℕ) (x : Pivoted) → at rec a ≡ x → SameRow n g (cleared M e (figured x)) → p < n → p ≢ x.pivot → g.row p ≢ 0
-      → AloneAt a → ⊥
-  alone_missed g a p x is same below ne named alone =
-      named (same.rows p below ∙ ap (λ y. (cleared M e (figured y)).row p) (sym is) ∙ alone.1 p below (λ z. ne (z ∙ ap (λ y. y.pivot) is)))
+      (a p : ℕ) (x : Pivoted) → at rec a ≡ x → p < n → p ≢ x.pivot → (cleared M e (figured x)).row p ≢ 0 → AloneAt a → ⊥
+  alone_missed a p x is below ne named alone =
+      named (ap (λ y. (cleared M e (figured y)).row p) (sym is) ∙ alone.1 p below (λ z. ne (z ∙ ap (λ y. y.pivot) is)))
 
   -- a row that stands alone is lower than e's pivot
   lower : (a : ℕ) → a < length rec → AloneAt a → (at rec a).pivot < e.pivot

@@ -106,3 +106,12 @@ one_more M n e k rec place R =
     let more : length (joined M e k rec) ≡ suc (length rec) = put-length (pivot_cleared M e) e k rec place in
     let few = few-rows M n (joined M e k rec) R in
     omega arith
+
+-- where the joined record is reduced, the row that joined is 0 below its pivot
+pub joined_lowest :
+    (M : FieldModel) (n : ℕ) (e : Pivoted) (k : ℕ) (rec : List Pivoted) → k ≤ length rec → Reduced M n (joined M e k rec)
+    → (m : ℕ) → m < e.pivot → e.weights m ≡ 0
+joined_lowest M n e k rec place R m h =
+    let here = put_here (pivot_cleared M e) e k rec place in
+    ap (λ p. p.weights m) (sym here)
+    ∙ R.lowest_named k m (omega (arith, put-length (pivot_cleared M e) e k rec place, place)) (subst (λ (p : Pivoted). m < p.pivot) (sym here) h)

@@ -1,26 +1,18 @@
 -- Some elements written to the front of 64 that were 0. Assumes nothing.
-use Rattle.std.proofs.Common.{◌≡◌, ℕ, zero, suc, ◌+◌, ◌-◌, ◌<◌, ◌≤◌, min, List, ◌++◌, length, get_or, take, drop, replicate, sym, refl, ap, ◌∙◌, arith, length-take, take_all}
+use Rattle.std.proofs.Common.{◌≡◌, ℕ, ◌+◌, ◌-◌, ◌<◌, ◌≤◌, min, List, ◌++◌, length, get_or, take, drop, replicate, sym, ap, ◌∙◌, arith, length-take, take_all}
 use native.Mathlib.Decide.{dec_lt}
 use Rattle.std.proofs.lemmas.List.{get_or-drop, get_or-append_right, get_or_append_left, get_or-take, take_at}
 use Rattle.field.specs.Sums.{weights_of}
 use Rattle.field.specs.declared.Element.{Element}
-use Rattle.record.proofs.Weights.{past_end}
-
-abbrev zero_element : Element
-zero_element = record { 0 = 0 }
-
-zeros : (k i : ℕ) → get_or (replicate k zero_element) i zero_element ≡ zero_element
-zeros zero i = refl
-zeros (suc k) zero = refl
-zeros (suc k) (suc i) = zeros k i
+use Rattle.record.proofs.Weights.{past_end, zero_element, zeros}
 
 -- the places past them are as they began
 pub zero_past :
     (ws : List Element) (n k : ℕ) → length ws ≡ n → (m : ℕ) → n ≤ m → weights_of (ws ++ drop k (replicate 64 zero_element)) m ≡ 0
 zero_past ws n k long m past =
     ap (λ e. e.0)
-    (get_or-append_right ws (drop k (replicate 64 zero_element)) n m zero_element long past ∙ get_or-drop k (replicate 64 zero_element) (m - n) zero_element
-    ∙ zeros 64 (k + (m - n)))
+    (get_or-append_right ws (drop k (replicate 64 zero_element)) n m zero_element long past ∙ get_or-drop k (replicate 64 zero_element) (m - n) zero_element)
+    ∙ zeros 64 (k + (m - n))
 
 -- the first 64 of vs, at the front of 64 places
 module _ (vs : List Element) (few : ℕ) (is : few ≡ min (length vs) 64) (front : List Element) (copied : front ≡ take few vs) where

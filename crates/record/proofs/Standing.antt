@@ -1,11 +1,12 @@
 -- What is left over of a row, in memory and in the theory. Assumes nothing.
-use Rattle.std.proofs.Common.{◌≡◌, ℕ, ◌<◌, ◌≢◌, List, length, sym, refl, ◌∙◌, subst, ap₂, inl, inr, arith}
+use Rattle.std.proofs.Common.{◌≡◌, ℕ, ◌<◌, ◌≢◌, List, length, sym, refl, ap, ◌∙◌, subst, ap₂, inl, inr, arith}
 use Rattle.field.specs.Model.{FieldModel, FieldLaws}
 use Rattle.field.specs.Sums.{Vector}
 use Rattle.server.specs.Checks.{Lowest}
 use Rattle.echelon.specs.Rows.{Figured}
 use Rattle.echelon.specs.Reduced.{Pivoted, at, figured, Alone, Reduced}
 use Rattle.echelon.specs.Elimination.{leftover, scaled}
+use Rattle.echelon.proofs.Values.{all_codes, leftover-codes, times_nothing}
 use Rattle.record.specs.Rows.{pivoted, SameRow, CodedRow}
 use Rattle.record.specs.Judged.{PinnedWith, AloneWith, SamePivoted}
 use Rattle.record.specs.Standings.{Left, fresh_row}
@@ -57,6 +58,13 @@ module _
   pub others_zero : (a : ℕ) → a < length rec → (pivoted x).weights (at rec a).pivot ≡ 0
   others_zero a h =
       sym (same.weights _ (R.pivot_below a h)) ∙ others M L n rec R g cg x.pivot.0 left.below left.named left.lowest a h
+
+  pub zero_below : (m : ℕ) → m < x.pivot.0 → (pivoted x).weights m ≡ 0
+  zero_below m h =
+      let named = (leftover M rec g).row x.pivot.0 in
+      let code : named < M.size = (leftover-codes M L n rec (all_codes M n rec R) g cg).0 x.pivot.0 left.below in
+      sym (same.weights m (omega (arith, h, left.below))) ∙ ap (M.times (M.inverse named)) (left.lowest m h)
+      ∙ times_nothing M L n (M.inverse named) (L.inverse_below named code)
 
   pinned_alone_beside : (i : ℕ) → PinnedWith M n rec g.row i → AloneWith M n rec (pivoted x) i
   pinned_alone_beside i pinned =

@@ -18,3 +18,8 @@ module _ {X : Type 0} (A : Type 0) (B : X → Type 0) where
       → (A → Q y) → ((x : X) → B x → P) → MatchOption (then_some b y) P Q
   told_of P Q y true o e told alone other = alone (none_told o e told)
   told_of P Q y false o e told alone other = let found = some_told o e told in other found.0 found.1
+
+  -- what is known of an option, said otherwise
+  pub option_told : (P : Type 0) (Q : X → Type 0) (o : Option X) → (A → P) → ((x : X) → B x → Q x) → MatchOption o A B → MatchOption o P Q
+  option_told P Q None none some told = none told
+  option_told P Q (Some x) none some told = some x told

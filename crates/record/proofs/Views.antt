@@ -11,6 +11,7 @@ use Rattle.std.proofs.lemmas.Bool.Decides.{nat_tests}
 use Rattle.std.proofs.lemmas.List.Sorted.{IsNonDecreasingBy-from_default}
 use Rattle.std.proofs.lemmas.List.{get_or-set_same, get_or-set_other, get_or_default}
 use Rattle.field.specs.Model.{FieldModel}
+use Rattle.field.specs.Sums.{weights_of}
 use Rattle.field.specs.declared.Field.{Ghosts}
 use Rattle.echelon.specs.Reduced.{Pivoted, at, figured, Reduced}
 use Rattle.echelon.specs.Elimination.{cleared, leftover, pivot_cleared}
@@ -60,6 +61,7 @@ pub record RowFacts {F : Type 0} {G : Ghosts F} (r : Record F G) (x : RecordRow)
   pub is : at (rec_of r) a ≡ pivoted x
   pub pivot : x.pivot.0 < r.count
   pub coded : CodedRow G.model r.count (figured (pivoted x))
+  pub lowest : (m : ℕ) → m < x.pivot.0 → weights_of x.row.weights m ≡ 0
 
 pub facts_of :
     {F : Type 0} {G : Ghosts F} (r : Record F G) (sl : List RecordRow) → sl ≡ vec_items r.rows
@@ -73,6 +75,7 @@ facts_of {G = G} r sl e a h =
       is = is;
       pivot = subst (λ (p : Pivoted). p.pivot < r.count) is (r.pivots_below a below);
       coded = subst (λ (p : Pivoted). CodedRow G.model r.count (figured p)) is (r.coded a below);
+      lowest = subst (λ (p : Pivoted). (m : ℕ) → m < p.pivot → p.weights m ≡ 0) is (λ m b. r.lowest_named a m (below, b));
     }
 
 pub leftover-same :

@@ -1,5 +1,4 @@
 -- What the record is asked, and what it answers, in terms of tables.
---   rows-with rec r          the record's rows and one more
 --   FixedFigure M n rec r f  every table that fits the record has the sum f over r
 --   Judged M n rec r j       j is the judgement of the row r: fixed, pins a member, or free to join
 --   Admitted M n rec ws f rec' r   r is what admitting the row ws with the figure f answers, and rec' the record after it

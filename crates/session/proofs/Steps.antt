@@ -164,16 +164,6 @@ module _ {S V : Type 0} {GS : server.Ghosts S V} {GV : field.Ghosts V} (M : Fiel
       go None pending open_is = open_is
       go (Some p) pending open_is = other p pending (open_is.0 ∙ same)
 
--- the open row has another number
-pub other_permit :
-    {S V : Type 0} {GS : server.Ghosts S V} {GV : field.Ghosts V} (x : Session S V GS GV) (p : OpenRow) (k : ℕ) → x.pending ≡ Some p → p.permit ≢ k
-    → (q : OpenRow) → x.pending ≡ Some q → q.permit ≢ k
-other_permit x p k is ne q also same = ne (ap permit_of (sym is ∙ also) ∙ same)
-  where
-    permit_of : Option OpenRow → ℕ
-    permit_of None = k
-    permit_of (Some r) = r.permit
-
 -- the same for every history
 module _ {S V : Type 0} {GS : server.Ghosts S V} {GV : field.Ghosts V} (M : FieldModel) (L : FieldLaws M) (T : List ℕ) (x : Session S V GS GV) where
   pub refused-steps :

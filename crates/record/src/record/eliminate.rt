@@ -22,7 +22,7 @@ fn with_pivot<F: Field>(left: &FiguredRow, n: usize) -> Option<RecordRow>
 {
     let pivot = left.lowest_named(n)?;
     let mut row = *left;
-    row.scale::<F>(F::inv(left.weights[pivot.0]), n);
+    row.scale::<F>(F::inv(left.weights[pivot.0]), pivot, n);
     Some(RecordRow { pivot, row })
 }
 
@@ -46,14 +46,14 @@ impl<F: Field> Record<F> {
     pub(crate) fn lowest_alone(&self, fresh: &RecordRow) -> Option<Member>
         requires pivot { fresh.now.pivot.0 < self.now.count }
         requires coded { CodedRow F.model self.now.count (figured (pivoted fresh.now)) }
+        requires lowest { (m : ℕ) → m < fresh.now.pivot.0 → weights_of fresh.now.row.weights m ≡ 0 }
         requires own { weights_of fresh.now.row.weights fresh.now.pivot.0 ≡ 1 }
         requires others { (a : ℕ) → a < length (rec_of self.now) → weights_of fresh.now.row.weights (at (rec_of self.now) a).pivot ≡ 0 }
         ensures { MatchOption result ((i : ℕ) → AloneWith F.model self.now.count (rec_of self.now) (pivoted fresh.now) i → ⊥) (λ i. Lowest (AloneWith F.model self.now.count (rec_of self.now) (pivoted fresh.now)) i.0) }
     {
         for row in self.rows.as_slice() {
-            let mut cleared = row.row;
-            cleared.clear::<F>(fresh, self.count);
-            if cleared.lowest_other(row.pivot, self.count).is_none() {
+            let other = row.lowest_other_without::<F>(fresh, self.count);
+            if other.is_none() {
                 return Some(row.pivot);
             }
         }

@@ -1,5 +1,6 @@
 // A new row joins the record.
 ghost use Rattle.std.specs.Prelude.{◌≡◌, ℕ, ◌<◌, ◌≤◌, length, vec_len, vec_capacity};
+ghost use Rattle.field.specs.Sums.{weights_of};
 ghost use Rattle.echelon.specs.Reduced.{at, figured, Reduced, Same};
 ghost use Rattle.echelon.specs.Elimination.{pivot_cleared, joined};
 ghost use Rattle.record.specs.Rows.{pivoted, figured_record_row, SameRow, CodedRow};
@@ -17,6 +18,7 @@ fn clear_rows<F: Field>(rows: &mut Vec<RecordRow>, by: &RecordRow, n: usize)
     requires few { n ≤ 64 }
     requires pivot { by.now.pivot.0 < n }
     requires by_coded { CodedRow F.model n (figured_record_row by.now) }
+    requires by_lowest { (m : ℕ) → m < by.now.pivot.0 → weights_of by.now.row.weights m ≡ 0 }
     requires coded { (a : ℕ) → a < vec_len rows.old → CodedRow F.model n (figured (at (all_pivoted rows.old.items) a)) }
     ensures len { vec_len rows.new ≡ vec_len rows.old }
     ensures cap { vec_capacity rows.new ≡ vec_capacity rows.old }

@@ -19,12 +19,13 @@ pub fn minus<F: Field>(a: Element, b: Element) -> Element
 // `few` stays a clause: a type for the count, which contracts see as the number, was tried. Each use of the count then needs
 // an equation in the proofs, and the code a call.
 impl FiguredRow {
-    // Takes away that multiple of `by` which leaves 0 at its pivot, over the first `n` members.
+    // Takes away that multiple of `by` which leaves 0 at its pivot, over the first `n` members. Below its pivot `by` is 0.
     pub(crate) fn clear<F: Field>(&mut self, by: &RecordRow, n: usize)
         requires few { n ≤ 64 }
         requires pivot { by.now.pivot.0 < n }
         requires coded { CodedRow F.model n (figured_row self.old) }
         requires by_coded { CodedRow F.model n (figured_record_row by.now) }
+        requires by_lowest { (m : ℕ) → m < by.now.pivot.0 → weights_of by.now.row.weights m ≡ 0 }
         ensures is { SameRow n (figured_row self.new) (cleared F.model (pivoted by.now) (figured_row self.old)) }
         ensures coded { CodedRow F.model n (figured_row self.new) }
     {
@@ -32,19 +33,24 @@ impl FiguredRow {
         if factor.0 == 0 {
             return;
         }
-        for (m, weight) in self.weights[..n].iter_mut().enumerate() {
-            *weight = minus::<F>(*weight, F::mul(factor, by.row.weights[m]));
+        let opposite = F::neg(factor);
+        let pivot = by.pivot.0;
+        for (k, weight) in self.weights[pivot..n].iter_mut().enumerate() {
+            *weight = F::mul_add(opposite, by.row.weights[pivot + k], *weight);
         }
-        self.figure = minus::<F>(self.figure, F::mul(factor, by.row.figure));
+        self.figure = F::mul_add(opposite, by.row.figure, self.figure);
     }
 
-    // Multiplies the row and its figure, over the first `n` members.
-    pub(crate) fn scale<F: Field>(&mut self, factor: Element, n: usize)
+    // Multiplies the row and its figure, over the first `n` members. Below `from` the row is 0.
+    pub(crate) fn scale<F: Field>(&mut self, factor: Element, from: Member, n: usize)
         requires few { n ≤ 64 }
+        requires from { from.0 ≤ n }
+        requires factor { factor.0 < F.model.size }
+        requires zero { (m : ℕ) → m < from.0 → weights_of self.old.weights m ≡ 0 }
         ensures is { SameRow n (figured_row self.new) (scaled F.model factor.0 (figured_row self.old)) }
         ensures coded { CodedRow F.model n (figured_row self.new) }
     {
-        for weight in self.weights[..n].iter_mut() {
+        for weight in self.weights[from.0..n].iter_mut() {
             *weight = F::mul(factor, *weight);
         }
         self.figure = F::mul(factor, self.figure);
@@ -81,5 +87,28 @@ impl FiguredRow {
             weights: padded(weights),
             figure,
         }
+    }
+}
+
+impl RecordRow {
+    // The lowest member named beside its pivot, once the pivot of `by` is cleared from it. A row that is changed has its
+    // pivot below that of `by`, and both are 0 below their pivots.
+    pub(crate) fn lowest_other_without<F: Field>(&self, by: &RecordRow, n: usize) -> Option<Member>
+        requires few { n ≤ 64 }
+        requires pivot { by.now.pivot.0 < n }
+        requires coded { CodedRow F.model n (figured_record_row self.now) }
+        requires by_coded { CodedRow F.model n (figured_record_row by.now) }
+        requires lowest { (m : ℕ) → m < self.now.pivot.0 → weights_of self.now.row.weights m ≡ 0 }
+        requires by_lowest { (m : ℕ) → m < by.now.pivot.0 → weights_of by.now.row.weights m ≡ 0 }
+        ensures { MatchOption result ((m : ℕ) → m < n → m ≢ self.now.pivot.0 → (cleared F.model (pivoted by.now) (figured_record_row self.now)).row m ≡ 0) (λ p. (p.0 < n) × (p.0 ≢ self.now.pivot.0) × ((cleared F.model (pivoted by.now) (figured_record_row self.now)).row p.0 ≢ 0)) }
+    {
+        let factor = self.row.weights[by.pivot.0];
+        if factor.0 == 0 {
+            return self.row.lowest_other(self.pivot, n);
+        }
+        let opposite = F::neg(factor);
+        (self.pivot.0 + 1..n)
+            .find(|m| F::mul_add(opposite, by.row.weights[*m], self.row.weights[*m]).0 != 0)
+            .map(Member)
     }
 }

@@ -4,7 +4,7 @@ use Rattle.record.specs.Judged.{given_row}
 use Rattle.record.specs.Records.{rec_of}
 use Rattle.record.specs.Standings.{fixed, pinning, fresh}
 use Rattle.record.proofs.Views.{reduced_of}
-use Rattle.record.proofs.Standing.{left_of, fresh-same, own-one, others_zero, lowest_pinned, none_pinned}
+use Rattle.record.proofs.Standing.{left_of, fresh-same, own-one, others_zero, zero_below, lowest_pinned, none_pinned}
 use Rattle.record.proofs.record.Record.assess.Goals as goal
 
 pub returns-in_default : goal.returns-in_default
@@ -27,6 +27,7 @@ lowest_alone-requires g c =
     record {
       pivot = made.0;
       coded = made.4;
+      lowest = zero_below M L r.count (rec_of r) R given c.requires.coded x left same;
       own = own-one M L r.count (rec_of r) R given c.requires.coded x left same;
       others = others_zero M L r.count (rec_of r) R given c.requires.coded x left same;
     }

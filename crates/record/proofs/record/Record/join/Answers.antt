@@ -8,7 +8,7 @@ use Rattle.record.specs.Rows.{pivoted}
 use Rattle.record.specs.Shapes.{all_pivoted}
 use Rattle.record.specs.Records.{rec_of}
 use Rattle.record.specs.declared.rows.RecordRow.{RecordRow}
-use Rattle.record.proofs.Join.{same-joined, one_more}
+use Rattle.record.proofs.Join.{same-joined, one_more, joined_lowest}
 use Rattle.record.proofs.Shaped.{same_none_alone}
 use Rattle.record.proofs.Views.{rows-length}
 use Rattle.record.proofs.record.Record.join.Goals as goal
@@ -21,6 +21,7 @@ clear_rows-requires g c =
       few = r.members.1;
       pivot = c.requires.pivot;
       by_coded = c.requires.coded;
+      by_lowest = joined_lowest g.F.Field.model r.count (pivoted c.args.fresh) c.args.k.0 (rec_of r) c.requires.place c.requires.reduced;
       coded = λ a h. r.coded a (simp length-map (omega arith));
     }
 

@@ -14,7 +14,7 @@ pub clear-requires : goal.clear-requires
 clear-requires g c =
     let r = c.args.self.now in
     let here = facts_of r c.as_slice-rows.result.now c.as_slice-rows.ensures.value c.loop-by.by-index c.loop-by-test.true in
-    record { few = r.members.1; pivot = here.pivot; coded = c.loop-by.invariant.1; by_coded = here.coded }
+    record { few = r.members.1; pivot = here.pivot; coded = c.loop-by.invariant.1; by_coded = here.coded; by_lowest = here.lowest }
 
 pub loop-by-preserved : goal.loop-by-preserved
 loop-by-preserved g c =

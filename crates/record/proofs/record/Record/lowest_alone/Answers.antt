@@ -3,7 +3,7 @@ use lib.ListN.{length-map}
 use Rattle.server.specs.Checks.{Lowest}
 use Rattle.echelon.specs.Reduced.{Pivoted}
 use Rattle.refusal.specs.declared.Member.{Member}
-use Rattle.record.specs.Rows.{figured_row, pivoted}
+use Rattle.record.specs.Rows.{pivoted}
 use Rattle.record.specs.Records.{rec_of}
 use Rattle.record.specs.Judged.{AloneWith}
 use Rattle.record.proofs.Views.{facts_of, reduced_of, no_record_row}
@@ -11,11 +11,11 @@ use Rattle.record.proofs.Alone.{alone-found, alone_missed, row_is_lowest, fresh_
 use Rattle.record.proofs.Told.{none_told, some_told, told_of}
 use Rattle.record.proofs.record.Record.lowest_alone.Goals as goal
 
-pub clear-requires : goal.clear-requires
-clear-requires g c =
+pub lowest_other_without-other-requires : goal.lowest_other_without-other-requires
+lowest_other_without-other-requires g c =
     let r = c.args.self.now in
     let here = facts_of r c.as_slice-row-items.result.now c.as_slice-row-items.ensures.value c.loop-row.row-index c.loop-row-test.true in
-    record { few = r.members.1; pivot = c.requires.pivot; coded = here.coded; by_coded = c.requires.coded }
+    record { few = r.members.1; pivot = c.requires.pivot; coded = here.coded; by_coded = c.requires.coded; lowest = here.lowest; by_lowest = c.requires.lowest }
 
 pub returns-then-is_none : goal.returns-then-is_none
 returns-then-is_none g c =
@@ -29,7 +29,7 @@ returns-then-is_none g c =
     let here = facts_of r c.as_slice-row-items.result.now c.as_slice-row-items.ensures.value a c.loop-row-test.true in
     let found =
     alone-found M L r.count (rec_of r) R r.none_alone e c.requires.pivot c.requires.coded c.requires.own c.requires.others
-    (figured_row c.clear.new.self) a (pivoted x) here.below here.is c.clear.ensures.is (none_told _ _ _ (c.is_none.ensures ∙ ap not c.if-is_none.true) c.lowest_other.ensures) in
+    a (pivoted x) here.below here.is (none_told _ _ _ (c.is_none.ensures ∙ ap not c.if-is_none.true) c.lowest_other_without-other.ensures) in
     subst (λ (y : Pivoted). Lowest (AloneWith M r.count (rec_of r) e) y.pivot) here.is
     (row_is_lowest M L r.count (rec_of r) R r.none_alone e c.requires.pivot c.requires.coded c.requires.own c.requires.others a here.below found c.loop-row.invariant)
 
@@ -43,10 +43,10 @@ loop-row-preserved g c =
     let R = reduced_of r in
     let x = get_or c.as_slice-row-items.result.now a no_record_row in
     let here = facts_of r c.as_slice-row-items.result.now c.as_slice-row-items.ensures.value a c.loop-row-test.true in
-    let (m, other) = some_told _ _ _ (c.is_none.ensures ∙ ap not c.if-is_none.false) c.lowest_other.ensures in
+    let (m, other) = some_told _ _ _ (c.is_none.ensures ∙ ap not c.if-is_none.false) c.lowest_other_without-other.ensures in
     below_more _ _ c.loop-row.invariant
     (alone_missed M L r.count (rec_of r) R r.none_alone e c.requires.pivot c.requires.coded c.requires.own c.requires.others
-    (figured_row c.clear.new.self) a m.0 (pivoted x) here.is c.clear.ensures.is other.0 other.1 other.2)
+    a m.0 (pivoted x) here.is other.0 other.1 other.2)
 
 pub returns : goal.returns
 returns g c =

@@ -26,6 +26,7 @@ clear-requires g c =
       coded = subst (λ (p : Pivoted). CodedRow M c.args.n (figured p)) (untouched g (goal.at.clear-requires g c).At-loop-row)
           (subst (λ l. CodedRow M c.args.n (figured (at (all_pivoted l) a))) (sym c.deref_mut-row-items.ensures.value) (c.requires.coded a (omega (arith, c.deref_mut-row-items.ensures.len))));
       by_coded = c.requires.by_coded;
+      by_lowest = c.requires.by_lowest;
     }
 
 pub loop-row-preserved : goal.loop-row-preserved
