@@ -12,3 +12,5 @@ pub mod Begins
 pub mod Parting
 pub mod Worked
 pub mod Places
+pub mod Rows
+pub mod FirstFaults
