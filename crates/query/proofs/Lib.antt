@@ -13,4 +13,6 @@ pub mod Parting
 pub mod Worked
 pub mod Places
 pub mod Rows
+pub mod NumberFaults
+pub mod ItemFaults
 pub mod FirstFaults
