@@ -1,7 +1,9 @@
-// The writers of a log, in buffers of so many bytes: each refusal, and the order between two.
+// The writers of a log and its rewriting, in buffers of so many bytes: each refusal, and the order between two.
 use amounts::Amounts;
 use answer_log::{write_header, write_row};
 use field::Element;
+use log_record::rewrite_accepted;
+use record::Room;
 use refusal::Refusal;
 use shown::Refused;
 use std::io;
@@ -49,6 +51,18 @@ const ROWS: [(&str, usize, &[u32], u32, usize); 23] = [
     ("weights 1 and 65520", 3, &[1, 0, 65520], 50, 10),
 ];
 
+const LOG: &[u8] = &[1, 3, 0, 3, 0, 215, 0, 6, 0, 165, 1, 3, 0, 2, 0, 2, 1, 0xAE];
+
+// The name, a log of three members, and the bytes of the buffer.
+const LOGS: [(&str, &[u8], usize); 6] = [
+    ("the replay's log, room 0", LOG, 0),
+    ("the replay's log, room 17", LOG, 17),
+    ("the replay's log, room 18", LOG, 18),
+    ("the replay's log, room 20", LOG, 20),
+    ("mark 2, room 0", &[1, 3, 2], 0),
+    ("a row that pins, room 8", &[1, 3, 0, 4, 0, 70], 8),
+];
+
 // What a writer answered, and the whole buffer after it.
 fn shown(
     rt: &HostRuntime,
@@ -93,6 +107,17 @@ pub(crate) fn run(rt: &HostRuntime) -> io::Result<()> {
     println!(rt; "rows written, amounts")?;
     for (case, n, weights, figure, room) in ROWS {
         row(rt, case, n, weights, figure, room)?;
+    }
+    println!(rt; "logs written again, amounts")?;
+    for (case, log, room) in LOGS {
+        let mut buffer = vec![in rt.alloc(); MARK; room]?;
+        let came = rewrite_accepted::<Amounts>(
+            Room::new(rt.alloc())?,
+            3,
+            log,
+            buffer.as_mut_slice(),
+        );
+        shown(rt, case, came, &buffer)?;
     }
     Ok(())
 }
