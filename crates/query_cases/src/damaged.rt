@@ -8,24 +8,25 @@ const LINES: [&str; 6] = ["a 0", "a 0 2:13 1", "t 1:70 0", "w 2 65519", "w 1 0",
 
 const OTHERS: [u8; 7] = [b' ', b':', b'0', b'9', b'x', b'w', b'#'];
 
-// The line without what stands from a place on, and then other bytes.
-fn ended(line: &mut Vec<u8>, whole: &[u8], at: usize, more: &[u8]) -> Result<(), AllocError> {
+// Puts other bytes after the front of a line.
+fn ended(line: &mut Vec<u8>, front: &[u8], more: &[u8]) -> Result<(), AllocError> {
     line.clear();
-    line.extend_from_slice(&whole[..at.min(whole.len())])?;
+    line.extend_from_slice(front)?;
     line.extend_from_slice(more)
 }
 
 fn at_place(rt: &HostRuntime, whole: &[u8], at: usize) -> io::Result<()> {
-    let rest = &whole[whole.len().min(at + 1)..];
+    let (front, back) = whole.split_at(at.min(whole.len()));
+    let rest = back.get(1..).unwrap_or(back);
     let mut line = Vec::new(rt.alloc());
-    ended(&mut line, whole, at, &[])?;
+    ended(&mut line, front, &[])?;
     print!(rt; "{at}, cut: ")?;
     show::answer::<Amounts>(rt, &line, 3)?;
-    ended(&mut line, whole, at, rest)?;
+    ended(&mut line, front, rest)?;
     print!(rt; "; missing: ")?;
     show::answer::<Amounts>(rt, &line, 3)?;
     for other in OTHERS {
-        ended(&mut line, whole, at, &[other])?;
+        ended(&mut line, front, &[other])?;
         line.extend_from_slice(rest)?;
         print!(rt; "; {:?}: ", char::from(other))?;
         show::answer::<Amounts>(rt, &line, 3)?;
