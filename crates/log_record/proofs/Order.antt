@@ -57,10 +57,12 @@ module _ (M : FieldModel) (L : FieldLaws M) (n : ℕ) where
       let row : take size bs ≡ row_bytes M n w f = again M n (record { 0 = k }) bs fit w f size reads in
       let (given, all, same) =
       rows_found (k + 1) (row_with w f ∷ before) (drop size bs) (λ i. rw get_or-drop (fit (size + i)))
-      (reads_fine M L n (record { 0 = k }) bs w f size reads, fine) rest in
-      (given, all,
-      ap (λ us. rows_bytes M n before ++ us) (sym (take-append-drop size bs) ∙ ap (λ us. us ++ drop size bs) row)
-      ∙ sym (append_assoc (rows_bytes M n before) (row_bytes M n w f) (drop size bs)) ∙ same)
+      (reads_fine M L n (record { 0 = k }) bs w f size reads, fine) rest in (
+        given,
+        all,
+        ap (λ us. rows_bytes M n before ++ us) (sym (take-append-drop size bs) ∙ ap (λ us. us ++ drop size bs) row)
+            ∙ sym (append_assoc (rows_bytes M n before) (row_bytes M n w f) (drop size bs)) ∙ same,
+      )
 
 module _ (M : FieldModel) (n : ℕ) where
   -- one row more, read from the bytes that it writes
@@ -93,10 +95,14 @@ read_is_written_lem = record { read = read; written = written }
         (M : FieldModel) → FieldLaws M → (n : ℕ) (bs : List ℕ) → Bytes bs → LogCheck M n bs None
         → Count n × ((given : List Figured) × AllFine M n given × (bs ≡ log_bytes M n given))
     read M L n bs fit (rows _ (accepted long kind count same) check) =
-        let (given, fine, same-rows) = rows_found M L n 0 [] (drop 2 bs) (λ i. rw get_or-drop (fit (2 + i))) tt check in
-        (count,
-        (given, fine,
-        sym (take-append-drop 2 bs) ∙ ap₂ (λ us vs. us ++ vs) (header-same M n bs (accepted long kind count same)) same-rows))
+        let (given, fine, same-rows) = rows_found M L n 0 [] (drop 2 bs) (λ i. rw get_or-drop (fit (2 + i))) tt check in (
+          count,
+          (
+            given,
+            fine,
+            sym (take-append-drop 2 bs) ∙ ap₂ (λ us vs. us ++ vs) (header-same M n bs (accepted long kind count same)) same-rows,
+          ),
+        )
 
     written :
         (M : FieldModel) (n : ℕ) → Count n → (given : List Figured) → AllFine M n given
