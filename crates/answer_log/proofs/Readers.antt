@@ -1,5 +1,5 @@
 -- What the code reads of a row, in the words of the specification. Assumes nothing.
-use Rattle.std.proofs.Common.{◌≡◌, ℕ, ◌+◌, ◌-◌, ◌*◌, ◌<◌, ◌≤◌, ◌⊎◌, min, Bool, true, false, cond, List, length, get_or, take, drop, Some, None, Option, MatchOption, is_some, sym, ap, ◌∙◌, subst, ap₂, inl, inr, ⊎_elim, true≢false, arith}
+use Rattle.std.proofs.Common.{◌≡◌, ℕ, ◌+◌, ◌-◌, ◌*◌, ◌<◌, ◌≤◌, ◌⊎◌, min, Bool, true, false, cond, List, length, get_or, take, drop, Some, None, sym, ap, ◌∙◌, subst, ap₂, inl, inr, ⊎_elim, true≢false, arith}
 use Rattle.std.proofs.lemmas.List.{take_rest, drop_all, length-drop, get_or-drop}
 use Rattle.std.proofs.lemmas.Bool.{cases_lt, eq-eqb, ne_eqb}
 use Rattle.refusal.specs.declared.LogRow.{LogRow}
@@ -38,16 +38,6 @@ module _ (bs : List ℕ) (n : ℕ) where
 
   pub bit_is : (m i : ℕ) (b : Bool) → i ≡ m → b ≡ named part i → named (map_of bs) m ≡ b
   bit_is m i b ei eb = sym (eb ∙ ap₂ named part_is ei)
-
--- what a test of an option tells of its value
-module _ {A : Type 0} (P : Type 0) (Q : A → Type 0) where
-  pub some_given : (r : Option A) → is_some r ≡ true → MatchOption r P Q → (x : A) × Q x
-  some_given None e h = absurd (true≢false (sym e))
-  some_given (Some x) e h = (x, h)
-
-  pub none_given : (r : Option A) → is_some r ≡ false → MatchOption r P Q → P
-  none_given None e h = h
-  none_given (Some x) e h = absurd (true≢false e)
 
 -- what the header's check says of a log for a server of n members
 module _ (M : FieldModel) (n : ℕ) (bs : List ℕ) where

@@ -4,7 +4,7 @@ use Rattle.std.specs.Option.{ok_or}
 use Rattle.refusal.specs.declared.LogRow.{LogRow}
 use Rattle.refusal.specs.declared.Refusal.TheVariants.{LogFull}
 use Rattle.field.specs.Model.{FieldModel}
-use Rattle.field.specs.Sums.{Codes, weights_of}
+use Rattle.field.specs.Sums.{weights_of}
 use Rattle.field.specs.declared.Element.{Element}
 use Rattle.server.specs.Checks.{Count}
 use Rattle.record.specs.Checks.{RowCheck, accepted}
@@ -18,9 +18,6 @@ use Rattle.answer_log.proofs.Back.{reads_back}
 module _ (M : FieldModel) (n : ℕ) (ws : List Element) where
   pub checked_length : RowCheck M n ws None → length ws ≡ n
   checked_length (accepted long codes some) = long
-
-  pub checked_codes : RowCheck M n ws None → Codes M n (weights_of ws)
-  checked_codes (accepted long codes some) = codes
 
   -- a row's bytes, for the count that its weights were checked against
   pub checked_row : RowCheck M n ws None → (f : ℕ) → row_bytes M (length ws) (weights_of ws) f ≡ row_bytes M n (weights_of ws) f

@@ -6,6 +6,7 @@ use Prim.Native.Nat.{ℕ, zero, suc, ◌<◌, Fin}
 use native.Mathlib.Decide.{dec_lt}
 use native.Mathlib.Omega.{arith}
 use Rattle.field.specs.Model.{FieldModel, FieldLaws}
+use Rattle.field.proofs.Zero.{zero-code}
 use Rattle.echelon.specs.Rows.{Vector, Codes, minus, sum}
 use Rattle.echelon.proofs.Field.{Field, total, total_cong, total_linear, table_linear, one_term, two_terms, zero-times, times_zero, zero_right, total_zero}
 
@@ -20,15 +21,12 @@ sum_cong M (suc n) r s t u e e' =
     (ap₂ M.times (e n (omega arith)) (e' n (omega arith)))
 
 module _ (M : FieldModel) (L : FieldLaws M) where
-  pub zero-code : 0 < M.size
-  zero-code = omega (arith, L.two_elements)
-
   pub one_code : 1 < M.size
   one_code = omega (arith, L.two_elements)
 
   cut_by : (k : ℕ) → Dec (k < M.size) → Fin M.size
   cut_by k (yes h) = (k, h)
-  cut_by k (no h) = (0, zero-code)
+  cut_by k (no h) = (0, zero-code M L)
 
   cut_code : (k : ℕ) (d : Dec (k < M.size)) → k < M.size → (cut_by k d).0 ≡ k
   unfolding cut_by
@@ -38,7 +36,7 @@ module _ (M : FieldModel) (L : FieldLaws M) where
   unfoldable pub field_of : Field
   field_of = record {
     Elt = Fin M.size;
-    zer = (0, zero-code);
+    zer = (0, zero-code M L);
     one = (1, one_code);
     ◌⊕◌ = λ a b. (M.plus a.0 b.0, L.plus_below a.0 b.0 a.1 b.1);
     ◌⊗◌ = λ a b. (M.times a.0 b.0, L.times_below a.0 b.0 a.1 b.1);
@@ -75,7 +73,7 @@ module _ (M : FieldModel) (L : FieldLaws M) where
 
   pub elt_zero : elt 0 ≡ zer
   unfolding field_of
-  elt_zero = elt_is 0 zero-code (0, zero-code) refl
+  elt_zero = elt_is 0 (zero-code M L) (0, zero-code M L) refl
 
   pub elt_one : elt 1 ≡ one
   unfolding field_of
@@ -108,18 +106,18 @@ module _ (M : FieldModel) (L : FieldLaws M) where
   elt_minus a b h k = elt_plus a (M.opposite b) h (L.opposite_below b k) ∙ ap (λ x. elt a ⊕ x) (elt_opposite b k)
 
   pub elt_nonzero : (a : ℕ) → a < M.size → a ≢ 0 → elt a ≢ zer
-  elt_nonzero a h k e = k (elt_path a 0 h zero-code (e ∙ sym elt_zero))
+  elt_nonzero a h k e = k (elt_path a 0 h (zero-code M L) (e ∙ sym elt_zero))
 
   pub one_nonzero : one ≢ zer
   one_nonzero e = elt_nonzero 1 one_code (omega arith) (elt_one ∙ e)
 
   pub opposite-zero : (a : ℕ) → a < M.size → M.opposite a ≡ 0 → a ≡ 0
   opposite-zero a h e =
-      sym (L.plus_zero a h) ∙ L.plus_comm 0 a zero-code h ∙ ap (M.plus a) (sym e) ∙ L.plus_opposite a h
+      sym (L.plus_zero a h) ∙ L.plus_comm 0 a (zero-code M L) h ∙ ap (M.plus a) (sym e) ∙ L.plus_opposite a h
 
   pub sum_below : (n : ℕ) (r t : Vector) → Codes M n r → Codes M n t → sum M n r t < M.size
   unfolding sum
-  sum_below zero r t cr ct = zero-code
+  sum_below zero r t cr ct = zero-code M L
   sum_below (suc n) r t cr ct =
       L.plus_below (sum M n r t) (M.times (r n) (t n)) (sum_below n r t (λ m b. cr m (omega arith)) (λ m b. ct m (omega arith)))
       (L.times_below (r n) (t n) (cr n (omega arith)) (ct n (omega arith)))
@@ -178,7 +176,7 @@ module _ (M : FieldModel) (L : FieldLaws M) where
 
     pub sum_none : (r t : Vector) → Codes M n r → Codes M n t → ((m : ℕ) → m < n → (r m ≡ 0) ⊎ (t m ≡ 0)) → sum M n r t ≡ 0
     sum_none r t cr ct rest =
-        elt_path (sum M n r t) 0 (sum_below n r t cr ct) zero-code
+        elt_path (sum M n r t) 0 (sum_below n r t cr ct) (zero-code M L)
         (elt_sum n r t cr ct ∙ total_zero field_of n (λ m. elt (r m) ⊗ elt (t m)) (λ m b. no_term r t m (rest m b)) ∙ sym elt_zero)
 
     -- a table over which the row has the sum 0 does not change the sum

@@ -7,13 +7,14 @@ use Prim.Native.Nat.{ℕ, zero, suc, ◌<◌}
 use native.Mathlib.Omega.{arith}
 use lib.ListN.{length, take}
 use Rattle.field.specs.Model.{FieldModel, FieldLaws}
+use Rattle.field.proofs.Zero.{zero-code}
 use Rattle.echelon.specs.Rows.{Vector, Codes, minus, sum, Figured, rows_of, Agree, Fixes}
 use Rattle.echelon.specs.Reduced.{Pivoted, figured, all_figured, at, Reduced}
 use Rattle.echelon.specs.Elimination.{cleared, leftover}
 use Rattle.echelon.specs.Witness.{Free, direction}
 use Rattle.echelon.specs.Theorems.{LeftoverFits, FixedLeavesNothing}
 use Rattle.echelon.proofs.Field.{one_right}
-use Rattle.echelon.proofs.Codes.{field_of, elt, elt_path, elt_zero, elt_one, zero-code, minus-below, sum_below, sum_one, sum_none}
+use Rattle.echelon.proofs.Codes.{field_of, elt, elt_path, elt_zero, elt_one, minus-below, sum_below, sum_one, sum_none}
 use Rattle.echelon.proofs.Indexed.{fits-at, agree_at, pivot_or_free, direction_self, direction_other}
 use Rattle.echelon.proofs.Tables.{direction-codes, direction_agrees, zeros-codes, zeros-sum}
 use Rattle.echelon.proofs.Values.{FigCodes, AllCodes, all_codes, Kills, cleared-codes, less_self, leftover-codes, leftover_value, tip, tip_value, table_value, fit_value, between, agree_value}

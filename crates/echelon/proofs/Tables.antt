@@ -8,12 +8,13 @@ use native.Mathlib.Decide.{ℕ_discrete}
 use native.Mathlib.Omega.{arith}
 use lib.ListN.{length}
 use Rattle.field.specs.Model.{FieldModel, FieldLaws}
+use Rattle.field.proofs.Zero.{zero-code}
 use Rattle.echelon.specs.Rows.{Vector, Codes, minus, sum, rows_of, Agree, Pins}
 use Rattle.echelon.specs.Reduced.{Pivoted, at, all_figured, Reduced, Alone}
 use Rattle.echelon.specs.Witness.{Free, base, direction, Leads, from_free, from_pivot}
 use Rattle.echelon.specs.Theorems.{BaseFits, DirectionFree, WitnessFits, PinnedAlone}
 use Rattle.echelon.proofs.Field.{one_right, times_cancel, take_back, share_back}
-use Rattle.echelon.proofs.Codes.{field_of, elt, elt_path, elt_zero, elt_one, elt_times, elt_opposite, elt_minus, elt_inverse, elt_nonzero, zero-code, one_code, sum_below, along, along_codes, elt_along, sum_one, sum_two, sum_cong, minus-below, sum_along, sum_none, opposite-zero}
+use Rattle.echelon.proofs.Codes.{field_of, elt, elt_path, elt_zero, elt_one, elt_times, elt_opposite, elt_minus, elt_inverse, elt_nonzero, one_code, sum_below, along, along_codes, elt_along, sum_one, sum_two, sum_cong, minus-below, sum_along, sum_none, opposite-zero}
 use Rattle.echelon.proofs.Indexed.{at-fits, agree_at, at_agree, pivot_or_free, Distinct, base-free, base-pivot, direction_self, direction_other, direction-pivot}
 
 module _ (M : FieldModel) (L : FieldLaws M) (n : ℕ) (rec : List Pivoted) (R : Reduced M n rec) where

@@ -1,4 +1,4 @@
--- A reduced record is known by the tables that fit it: at_most_one, one_form. Records equal at the n members: same-fits, same-reduced, same-form.
+-- A reduced record is known by the tables that fit it: at_most_one, one_form. Records equal at the n members: same-fits, same-reduced.
 -- Assumes nothing.
 use mathlib.Core.Path.{◌≡◌, refl, sym, ap, ap₂, ◌∙◌}
 use mathlib.Core.Logic.{◌≢◌, ◌⊎◌, inl, inr}
@@ -8,12 +8,13 @@ use native.Mathlib.Decide.{ℕ_discrete, dec_lt}
 use native.Mathlib.Omega.{arith}
 use lib.ListN.{length}
 use Rattle.field.specs.Model.{FieldModel, FieldLaws}
-use Rattle.echelon.specs.Rows.{Vector, Codes, sum, Figured, Fits}
-use Rattle.echelon.specs.Reduced.{Pivoted, at, all_figured, Reduced, ReducedForm, Same}
+use Rattle.field.proofs.Zero.{zero-code}
+use Rattle.echelon.specs.Rows.{Vector, Codes, sum, Fits}
+use Rattle.echelon.specs.Reduced.{Pivoted, at, all_figured, Reduced, Same}
 use Rattle.echelon.specs.Witness.{Free, base, direction}
 use Rattle.echelon.specs.Theorems.{AtMostOne, OneForm, SameFits}
 use Rattle.echelon.proofs.Field.{plus_cancel, zero_right, one_right, difference_zero}
-use Rattle.echelon.proofs.Codes.{field_of, elt, elt_path, elt_zero, elt_one, elt_opposite, one_nonzero, zero-code, one_code, sum_cong, sum_below, along, along_codes, elt_sum_along, sum_along, sum_one, sum_two}
+use Rattle.echelon.proofs.Codes.{field_of, elt, elt_path, elt_zero, elt_one, elt_opposite, one_nonzero, one_code, sum_cong, sum_below, along, along_codes, elt_sum_along, sum_along, sum_one, sum_two}
 use Rattle.echelon.proofs.Indexed.{fits-at, at-fits, pivot_or_free, base-free, base-pivot, direction_self, direction_other, direction-pivot}
 use Rattle.echelon.proofs.Tables.{distinct, beside, base-codes, base_sum, direction-codes, direction-sum, base-fits}
 
@@ -236,10 +237,3 @@ module _ (n : ℕ) (rec rec' : List Pivoted) (same : Same n rec rec') where
             weight a m b (omega (arith, within a b)) ∙ R.lowest_named a m (short a b) k;
         other_pivots = λ a b h k d. at-pivot a b h k ∙ R.other_pivots a b (short a h) (short b k) d;
       }
-
-  pub same-form : (M : FieldModel) (given : List Figured) → ReducedForm M n given rec → ReducedForm M n given rec'
-  same-form M given G = record {
-    reduced = same-reduced M G.reduced;
-    fits = λ t ct f. same-fits M n rec rec' same t (G.fits t ct f);
-    given_fits = λ t ct f. G.given_fits t ct (same-fits M n rec' rec same_sym t f);
-  }

@@ -9,11 +9,12 @@ use native.Mathlib.Omega.{arith}
 use lib.Dec.{eqb, eqb→eq, eqb_refl}
 use lib.ListN.{length}
 use Rattle.field.specs.Model.{FieldModel, FieldLaws}
+use Rattle.field.proofs.Zero.{zero-code}
 use Rattle.echelon.specs.Rows.{Vector, Codes, minus, sum, Figured}
 use Rattle.echelon.specs.Reduced.{Pivoted, figured, at, Reduced}
 use Rattle.echelon.specs.Elimination.{cleared, leftover, scaled}
 use Rattle.echelon.proofs.Field.{total, total_cong, total_linear, total_zero, one_term, plus_linear, row_linear, table_linear, zero_right, times_zero, zero-times, one_right, times_neg_one, neg_times, neg_zero, difference_zero}
-use Rattle.echelon.proofs.Codes.{field_of, elt, elt_path, elt_zero, elt_one, elt_plus, elt_times, elt_opposite, elt_minus, zero-code, sum_below, elt_sum, minus-below}
+use Rattle.echelon.proofs.Codes.{field_of, elt, elt_path, elt_zero, elt_one, elt_plus, elt_times, elt_opposite, elt_minus, sum_below, elt_sum, minus-below}
 use Rattle.echelon.proofs.Indexed.{by_test}
 
 -- the row and its figure are elements

@@ -9,10 +9,8 @@ use Rattle.echelon.specs.Rows.{Figured, rows_of, RowsCodes, Fits, Pins, Fixes}
 use Rattle.echelon.specs.Reduced.{Pivoted, all_figured, ReducedForm}
 use Rattle.echelon.proofs.Forms.{form_agrees_lem}
 use Rattle.record.specs.Judged.{record_rows, PinnedWith}
-use Rattle.record.specs.Shapes.{NoneAlone}
 use Rattle.history.specs.Law.{PinnedBy}
 use Rattle.history.proofs.Possible.{fits-given}
-use Rattle.history.proofs.Forming.{alone-pins}
 
 module _
     (M : FieldModel) (L : FieldLaws M) (n : ℕ) (given : List Figured) (codes : RowsCodes M n (rows_of given))
@@ -34,10 +32,6 @@ module _
     pub fixed-pins_none : (ws : List Element) → Fixes M n (record_rows rec) (weights_of ws) → (i : ℕ) → PinnedBy M n given ws i → ⊥
     fixed-pins_none ws fixes i (b, pins) =
         nobody i b (λ t u ct cu agree. pins t u ct cu (fixes t u ct cu ((form_agrees_lem M L n given rec G codes t u ct cu).0 agree), agree))
-
-    pub none_alone : NoneAlone n rec
-    none_alone a h alone =
-        let b = G.reduced.pivot_below a h in nobody _ b (alone-pins M L n given codes rec G _ b a h alone)
 
   -- a table that has every figure given fits the record
   pub record_fits : (t : Vector) → Codes M n t → Fits M n given t → Fits M n (all_figured rec) t

@@ -1,13 +1,14 @@
 -- What holds after every lawful history: `after` says it of rows, figures and permits, `table_fits` of the table.
 -- Assumes nothing.
-use Rattle.std.proofs.Common.{◌≡◌, ℕ, ◌+◌, ◌<◌, ◌≤◌, List, [], ◌∷◌, ◌++◌, Some, None, Option, sym, refl, ap, subst, add-zero, arith}
+use Rattle.std.proofs.Common.{◌≡◌, ℕ, ◌+◌, ◌<◌, ◌≤◌, List, [], ◌∷◌, ◌++◌, Some, None, Option, sym, refl, subst, add-zero, arith}
 use Rattle.field.specs.Model.{FieldModel, FieldLaws}
 use Rattle.field.specs.Sums.{Vector, Codes, sum, weights_of}
 use Rattle.echelon.specs.Rows.{Figured, rows_of, RowsCodes, Fits, Pins}
-use Rattle.echelon.proofs.Codes.{sum_below, zero-code, one_code}
+use Rattle.field.proofs.Zero.{zero-code}
+use Rattle.echelon.proofs.Codes.{sum_below, one_code}
 use Rattle.record.specs.Checks.{RowCheck}
 use Rattle.record.proofs.Verdict.{row-codes}
-use Rattle.history.specs.Events.{Call, Reply, Event, Start, OpenRow, new_session, answers, gives, one_if_permit, open_after, with_figure, newly_answered, issued, open_row, answered, given}
+use Rattle.history.specs.Events.{Call, Reply, Event, Start, OpenRow, new_session, one_if_permit, open_after, with_figure, newly_answered, issued, open_row, answered, given}
 use Rattle.history.specs.Law.{PinnedBy, Due, permit_open, permits_spent, bad_row, discloses, granted, answer_refused, answered_with, withdrawal_refused, withdrawn, witness_refused, witness_filled, Lawful, goes_on}
 use Rattle.history.specs.Theorems.{FiguresCodes, Sane}
 
@@ -17,9 +18,8 @@ before M n t s e h (goes_on k d lawful due) = lawful
 pub last_due : (M : FieldModel) (n : ℕ) (t : Vector) (s : Start) (e : Event) (h : List Event) → Lawful M n t s (e ∷ h) → Due M n t s h e.call e.reply
 last_due M n t s e h (goes_on k d lawful due) = due
 
--- what is known of the open row, beside k permits issued and the rows given
-pub record OpenFacts (M : FieldModel) (n k : ℕ) (rows : List Figured) (o : OpenRow) : Type 0 where
-  pub last_permit : o.permit ≡ k
+-- what is known of the open row, beside the rows given
+pub record OpenFacts (M : FieldModel) (n : ℕ) (rows : List Figured) (o : OpenRow) : Type 0 where
   pub checked : RowCheck M n o.weights None
   pub none_pinned : (i : ℕ) → PinnedBy M n rows o.weights i → ⊥
 
@@ -29,7 +29,7 @@ pub record Known (M : FieldModel) (n : ℕ) (o : Option OpenRow) (k : ℕ) (rows
   pub figures_codes : FiguresCodes M rows
   pub pins_nobody : (i : ℕ) → i < n → Pins M n (rows_of rows) i → ⊥
   pub few_permits : k ≤ 65535
-  pub open_facts : (p : OpenRow) → o ≡ Some p → OpenFacts M n k rows p
+  pub open_facts : (p : OpenRow) → o ≡ Some p → OpenFacts M n rows p
 
 abbrev pub After : FieldModel → ℕ → Start → List Event → Type 0
 After M n s h = Known M n (open_row h) (issued s h) (given s h)
@@ -54,14 +54,14 @@ module _ (M : FieldModel) (n : ℕ) where
 
   -- a row is opened under the next permit
   opened :
-      (o : Option OpenRow) (k : ℕ) (rows : List Figured) (p : OpenRow) → Known M n o k rows → k < 65535 → OpenFacts M n (k + 1) rows p
+      (o : Option OpenRow) (k : ℕ) (rows : List Figured) (p : OpenRow) → Known M n o k rows → k < 65535 → OpenFacts M n rows p
       → Known M n (Some p) (k + 1) rows
   opened o k rows p known left facts = record {
     rows_codes = known.rows_codes;
     figures_codes = known.figures_codes;
     pins_nobody = known.pins_nobody;
     few_permits = omega arith;
-    open_facts = λ q e. let same : p ≡ q = cc in subst (OpenFacts M n (k + 1) rows) same facts;
+    open_facts = λ q e. let same : p ≡ q = cc in subst (OpenFacts M n rows) same facts;
   }
 
   -- the open row is answered
@@ -80,8 +80,8 @@ module _ (M : FieldModel) (n : ℕ) where
 
 module _ (M : FieldModel) (L : FieldLaws M) (n : ℕ) (t : Vector) (ct : Codes M n t) (s : Start) where
   -- the figure of the open row is an element
-  pub figure_code : (o : OpenRow) (k : ℕ) (rows : List Figured) → OpenFacts M n k rows o → sum M n (weights_of o.weights) t < M.size
-  figure_code o k rows facts = sum_below M L n (weights_of o.weights) t (row-codes M n o.weights facts.checked) ct
+  pub figure_code : (o : OpenRow) (rows : List Figured) → OpenFacts M n rows o → sum M n (weights_of o.weights) t < M.size
+  figure_code o rows facts = sum_below M L n (weights_of o.weights) t (row-codes M n o.weights facts.checked) ct
 
   pub after_one :
       (h : List Event) (c : Call) (r : Reply) → After M n s h → Due M n t s h c r
@@ -91,11 +91,11 @@ module _ (M : FieldModel) (L : FieldLaws M) (n : ℕ) (t : Vector) (ct : Codes M
   after_one h c r known (bad_row ws e ready check) = same_count M n _ _ _ known
   after_one h c r known (discloses ws i ready check low) = same_count M n _ _ _ known
   after_one h c r known (granted ws ready check none) =
-      opened M n (open_row h) (issued s h) (given s h) _ known ready.left (record { last_permit = refl; checked = check; none_pinned = none })
+      opened M n (open_row h) (issued s h) (given s h) _ known ready.left (record { checked = check; none_pinned = none })
   after_one h c r known (answer_refused k not) = same_count M n _ _ _ known
   after_one h c r known (answered_with k o is same) =
       let v = sum M n (weights_of o.weights) t in
-      let code : v < M.size = figure_code o (issued s h) (given s h) (known.open_facts o is) in
+      let code : v < M.size = figure_code o (given s h) (known.open_facts o is) in
       let here : Known M n (Some o) (issued s h) (given s h) = subst (λ (x : Option OpenRow). Known M n x (issued s h) (given s h)) is known in
       subst (λ (x : Option OpenRow). Known M n None (issued s h + 0) ((with_figure v x ++ answered h) ++ s.rows)) (sym is)
       (same_count M n _ _ _ (answers_open M n o (issued s h) (given s h) v code here))
@@ -138,12 +138,6 @@ module _ (M : FieldModel) (n : ℕ) (t : Vector) (s : Start) where
   table_fits fits [] lawful = fits
   table_fits fits (e ∷ h) lawful =
       fits_one h e.call e.reply (table_fits fits h (before M n t s e h lawful)) (last_due M n t s e h lawful)
-
--- the answer to the open row, once given
-pub given_answer :
-    (s : Start) (h : List Event) (k v : ℕ) (o : OpenRow) → open_row h ≡ Some o
-    → given s (record { call = answers k; reply = gives v } ∷ h) ≡ record { row = weights_of o.weights; figure = v } ∷ given s h
-given_answer s h k v o is = ap (λ x. (with_figure v x ++ answered h) ++ s.rows) is
 
 -- a new session is a sane start
 pub new_sane : (M : FieldModel) → FieldLaws M → (n : ℕ) → Sane M n new_session

@@ -7,7 +7,7 @@ use Rattle.field.specs.Sums.{Vector}
 use Rattle.field.specs.declared.Element.{Element}
 use Rattle.server.specs.Checks.{Lowest}
 use Rattle.echelon.specs.Rows.{rows_of, Agree}
-use Rattle.echelon.proofs.Codes.{zero-code}
+use Rattle.field.proofs.Zero.{zero-code}
 use Rattle.record.specs.Checks.{RowCheck, WitnessCheck}
 use Rattle.record.specs.Checks as checks
 use Rattle.record.specs.Judged.{given_row}

@@ -9,7 +9,7 @@ use Rattle.record.specs.Checks as checks
 use Rattle.record.specs.Checks.{RowCheck}
 use Rattle.record.specs.Judged.{given_row}
 use Rattle.record.proofs.Weights.{past_end}
-use Rattle.history.specs.Events.{Call, Reply, Event, OpenRow, new_session, with_figure, newly_answered, issued, open_row, answered, given}
+use Rattle.history.specs.Events.{Call, Reply, Event, OpenRow, new_session, with_figure, newly_answered, open_row, answered, given}
 use Rattle.history.specs.Law.{PinnedBy, Due, permit_open, permits_spent, bad_row, discloses, granted, answer_refused, answered_with, withdrawal_refused, withdrawn, witness_refused, witness_filled, Lawful}
 use Rattle.history.proofs.Facts.{After, before, last_due, after, table_fits, figure_code, new_sane}
 use Rattle.log_record.specs.Theorems.{RowFine, InOrder, AnsweredIsAccepted}
@@ -39,7 +39,7 @@ module _ (M : FieldModel) (L : FieldLaws M) (n : ℕ) (t : Vector) (ct : Codes M
       let facts = known.open_facts o is in
       let none : (i : ℕ) → PinnedBy M n (answered h) o.weights i → ⊥ =
       subst (λ (all : List Figured). (i : ℕ) → PinnedBy M n all o.weights i → ⊥) (append-nil (answered h)) facts.none_pinned in
-      let small = figure_code M L n t ct new_session o (issued new_session h) (given new_session h) facts in
+      let small = figure_code M L n t ct new_session o (given new_session h) facts in
       subst (λ (x : Option OpenRow). InOrder M n (with_figure v x ++ answered h)) (sym is)
       (checked_fine o.weights v facts.checked small, none, λ (fixes, never). never t ct fits refl, order)
   order_one h c r known fits order (withdrawal_refused k not) = order

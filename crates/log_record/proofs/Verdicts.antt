@@ -15,7 +15,7 @@ use Rattle.echelon.proofs.Tables.{base-fits}
 use Rattle.echelon.proofs.Forms.{form_agrees_lem, form-kept}
 use Rattle.record.specs.Checks.{RowCheck}
 use Rattle.record.specs.Judged as judged
-use Rattle.record.specs.Judged.{record_rows, FixedFigure, PinnedWith, Judged, given_row, Adds, FitsBoth, Admitted}
+use Rattle.record.specs.Judged.{record_rows, FixedFigure, Judged, given_row, Adds, FitsBoth, Admitted}
 use Rattle.record.specs.declared.judge.Judgement.TheVariants.{Fixed, Pinning, Free}
 use Rattle.record.specs.declared.judge.Admission.{Admission}
 use Rattle.record.proofs.Verdict.{row-codes}

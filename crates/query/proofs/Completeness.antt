@@ -4,13 +4,14 @@ use Rattle.std.specs.List.{flat_map, AllByRecursion}
 use Rattle.std.proofs.lemmas.List.{append-nil, drop_at, drop-drop, length-drop, length-append, get_or-set_other, get_or-replicate, get_or_past}
 use Rattle.std.proofs.ByRecursion.{All-weaker}
 use Rattle.std.proofs.lemmas.Bool.{cases_lt}
+use Rattle.field.specs.Sums.{weights_of}
 use Rattle.field.specs.declared.Element.{Element}
 use Rattle.query.specs.declared.numbers.Numeral.{Numeral}
 use Rattle.query.specs.declared.items.Limits.{Limits}
 use Rattle.query.specs.declared.lines.Request.{Request}
 use Rattle.query.specs.declared.lines.Request.TheVariants.{Ask, Try, Witness}
 use Rattle.query.specs.Numbers.{place, byte_at, stands_at, digits}
-use Rattle.query.specs.Items.{code, no_weights, weight_of, of_item, read_spaced_lem, read_item_lem, read_items_lem}
+use Rattle.query.specs.Items.{code, no_weights, of_item, read_spaced_lem, read_item_lem, read_items_lem}
 use Rattle.query.specs.Lines.{read_witness_lem, reading}
 use Rattle.query.specs.Grammar.{Entry, alone, weighted, member, weight, text, InRange, Named, with_weights, Spells, ask, try, witness, remark, Accepted}
 use Rattle.query.proofs.Bytes.{front-stands, front_other, front_none}
@@ -58,7 +59,7 @@ module _ (limit v : ℕ) (line : List ℕ) (p : ℕ) (rest : List ℕ) (small : 
 
 module _ (lim : Limits) (few : lim.members ≤ 64) (size : lim.size ≤ 65536) (line : List ℕ) where
   item_reads :
-      (e : Entry) (row : List Element) (p : ℕ) (rest : List ℕ) → InRange lim e → weight_of row (member e) ≡ 0
+      (e : Entry) (row : List Element) (p : ℕ) (rest : List ℕ) → InRange lim e → weights_of row (member e) ≡ 0
       → drop p line ≡ text e ++ rest → Ends rest
       → read_item_lem lim row line p
       ≡ Ok (record { member = record { 0 = member e }; weight = code (weight e); after = place (p + length (text e)) })
@@ -93,7 +94,7 @@ module _ (lim : Limits) (few : lim.members ≤ 64) (size : lim.size ≤ 65536) (
 
   items_read :
       (e : Entry) (es : List Entry) (row : List Element) (p : ℕ) → Named lim (e ∷ es)
-      → AllByRecursion (λ f. weight_of row (member f) ≡ 0) (e ∷ es) → drop p line ≡ flat_map text (e ∷ es)
+      → AllByRecursion (λ f. weights_of row (member f) ≡ 0) (e ∷ es) → drop p line ≡ flat_map text (e ∷ es)
       → read_items_lem lim row line p ≡ Ok (record { 0 = with_weights row (e ∷ es) })
   items_read e [] row p named fresh is =
       let r = item_reads e row p [] named.in_range.0 fresh.0 is (inl refl) in
@@ -110,9 +111,9 @@ module _ (lim : Limits) (few : lim.members ≤ 64) (size : lim.size ≤ 65536) (
       let k = ap length next ∙ length-append (text f) (flat_map text fs) in
       let s = text-some f in
       let clean =
-      All-weaker _ (λ g. weight_of (set row (member e) (code (weight e))) (member g) ≡ 0)
+      All-weaker _ (λ g. weights_of (set row (member e) (code (weight e))) (member g) ≡ 0)
       (λ g h. ap (λ x. x.0) (get_or-set_other row (member e) (member g) (code (weight e)) (code 0) h.0) ∙ h.1) (f ∷ fs)
-      (both (λ g. member g ≢ member e) (λ g. weight_of row (member g) ≡ 0) (f ∷ fs) named.apart.0 fresh.1) in
+      (both (λ g. member g ≢ member e) (λ g. weights_of row (member g) ≡ 0) (f ∷ fs) named.apart.0 fresh.1) in
       items_more lim row line p _ r (λ z. omega arith)
       ∙ items_read f fs (set row (member e) (code (weight e))) q
       (record { in_range = named.in_range.1; apart = named.apart.1 }) clean next
@@ -120,12 +121,12 @@ module _ (lim : Limits) (few : lim.members ≤ 64) (size : lim.size ≤ 65536) (
 pub not_remark : (b : ℕ) → (b ≡ 35 → ⊥) → Some b ≡ Some 35 → ⊥
 not_remark b n e = let same : b ≡ 35 = cc in n same
 
-pub unnamed : (m : ℕ) → weight_of no_weights m ≡ 0
+pub unnamed : (m : ℕ) → weights_of no_weights m ≡ 0
 unnamed m =
     ap (λ x. x.0)
     (⊎_elim (λ h. get_or-replicate 64 m (code 0) (code 0) h) (λ h. get_or_past no_weights m (code 0) h) (cases_lt m 64))
 
-all_unnamed : (es : List Entry) → AllByRecursion (λ f. weight_of no_weights (member f) ≡ 0) es
+all_unnamed : (es : List Entry) → AllByRecursion (λ f. weights_of no_weights (member f) ≡ 0) es
 all_unnamed [] = tt
 all_unnamed (e ∷ es) = (unnamed (member e), all_unnamed es)
 

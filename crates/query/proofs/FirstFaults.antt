@@ -18,8 +18,7 @@ use Rattle.query.specs.Items.{code, no_weights, read_spaced_lem, read_items_lem}
 use Rattle.query.specs.Lines.{limits, read_witness_lem, by_kind, reading}
 use Rattle.query.specs.Grammar.{Entry, text, Named, with_weights}
 use Rattle.query.specs.Firsts.{RowKind, BadNumberAt, no_member, no_weight, no_member_of_witness, no_element, RepeatedAt, Firsts}
-use Rattle.query.proofs.LineChecks.{rows, kind-ask, kind-try, kind-witness, kind_none, reading_long}
-use Rattle.query.proofs.Soundness.{of_line_ok}
+use Rattle.query.proofs.LineChecks.{of_line_ok, rows, kind-ask, kind-try, kind-witness, kind_none, reading_long}
 use Rattle.query.proofs.Completeness.{unnamed, not_remark}
 use Rattle.query.proofs.Exactness.{few}
 use Rattle.query.proofs.Stops.{split, err_same, no_err, cond_err, then_err, of_line_err}

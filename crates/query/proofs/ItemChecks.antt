@@ -1,6 +1,7 @@
 -- The items of a line, from what their reader finds. Assumes nothing.
 use Rattle.std.proofs.Common.{◌≡◌, ℕ, zero, suc, ◌+◌, ◌-◌, ◌<◌, ◌≤◌, true, false, cond, eqb, List, length, set, Ok, Err, Result, sym, refl, ap, ◌∙◌, subst, ⊎_elim, arith}
 use Rattle.std.proofs.lemmas.Bool.{cases_Bool, cases_lt, cond-true, cond-false, eq-eqb, ne_eqb, eqb-true, not-false, not_from_true}
+use Rattle.field.specs.Sums.{weights_of}
 use Rattle.field.specs.declared.Element.{Element}
 use Rattle.query.specs.declared.faults.NumberFault.{NumberFault}
 use Rattle.query.specs.declared.faults.ItemFault.{ItemFault}
@@ -10,11 +11,11 @@ use Rattle.query.specs.declared.items.Limits.{Limits}
 use Rattle.query.specs.declared.items.Item.{Item}
 use Rattle.query.specs.declared.items.Weights.{Weights}
 use Rattle.query.specs.Numbers.{place, is_byte, stands_at, read_number}
-use Rattle.query.specs.Items.{code, weight_of, names, then, of_item, read_spaced_lem, weighed, read_item_lem, items_in, read_items_lem}
+use Rattle.query.specs.Items.{code, names, then, of_item, read_spaced_lem, weighed, read_item_lem, items_in, read_items_lem}
 use Rattle.query.proofs.Bytes.{byte_past}
 use Rattle.query.proofs.Checks.{past_fault, before_fault, ok_same, number_ok, number_moves}
 
-pub unnamed_zero : (row : List Element) (m : ℕ) → weight_of row m ≡ 0 → names row m ≡ false
+pub unnamed_zero : (row : List Element) (m : ℕ) → weights_of row m ≡ 0 → names row m ≡ false
 unnamed_zero row m z = not_from_true _ (eq-eqb _ _ z)
 
 -- a byte stands only within the line
@@ -112,7 +113,7 @@ module _ (lim : Limits) (row : List Element) (line : List ℕ) (p : ℕ) where
   pub record ItemRead (i : Item) : Type 0 where
     pub member : Numeral
     pub found : read_spaced_lem lim.members line p ≡ Ok member
-    pub unnamed : weight_of row member.value ≡ 0
+    pub unnamed : weights_of row member.value ≡ 0
     pub item : Weighed lim line member i
 
   pub item_ok : (i : Item) → read_item_lem lim row line p ≡ Ok i → ItemRead i

@@ -4,6 +4,7 @@ use Rattle.std.specs.List.{flat_map, AllByRecursion}
 use Rattle.std.proofs.ByRecursion.{All-weaker}
 use Rattle.std.proofs.lemmas.List.{length-append, length-set}
 use Rattle.std.proofs.lemmas.Bool.{eqb-true, both_ways, not-false}
+use Rattle.field.specs.Sums.{weights_of}
 use Rattle.field.specs.declared.Element.{Element}
 use Rattle.query.specs.declared.faults.NumberFault.{NumberFault}
 use Rattle.query.specs.declared.faults.ItemFault.{ItemFault}
@@ -17,7 +18,7 @@ use Rattle.query.specs.declared.items.Weights.{Weights}
 use Rattle.query.specs.declared.lines.Request.{Request}
 use Rattle.query.specs.Refusals.{item_refusal}
 use Rattle.query.specs.Numbers.{place, stands_at, digits, read_number}
-use Rattle.query.specs.Items.{code, no_weights, weight_of, names, then, of_item, weighed, read_item_lem, items_in, read_items_lem}
+use Rattle.query.specs.Items.{code, no_weights, names, then, of_item, weighed, read_item_lem, items_in, read_items_lem}
 use Rattle.query.specs.Lines.{of_line}
 use Rattle.query.specs.Grammar.{Entry, member, weight, text, Named, with_weights}
 use Rattle.query.specs.Firsts.{NoNumber}
@@ -32,7 +33,7 @@ use Rattle.query.proofs.NumberFaults.{Bad, Again, again_bad, same_again, number_
 pub data NumberHere (lim : Limits) (row : List Element) (rest : List ℕ) (j : ℕ) : Type 0 where
   member_here : (t : List ℕ) → rest ≡ 32 ∷ t → NoNumber 0 lim.members t → j ≡ 1 → NumberHere lim row rest j
   weight_here :
-      (m : ℕ) (t : List ℕ) → rest ≡ 32 ∷ (decimal m ++ (58 ∷ t)) → m < lim.members → weight_of row m ≡ 0 → NoNumber 1 lim.size t
+      (m : ℕ) (t : List ℕ) → rest ≡ 32 ∷ (decimal m ++ (58 ∷ t)) → m < lim.members → weights_of row m ≡ 0 → NoNumber 1 lim.size t
       → j ≡ length (decimal m) + 2 → NumberHere lim row rest j
 
 -- the same of a member that the row has
@@ -41,7 +42,7 @@ pub record AgainHere (row : List Element) (rest : List ℕ) (j : ℕ) : Type 0 w
   pub behind : List ℕ
   pub is : rest ≡ 32 ∷ (decimal again ++ behind)
   pub whole : digits behind ≡ []
-  pub named : weight_of row again ≢ 0
+  pub named : weights_of row again ≢ 0
   pub place_is : j ≡ 1
 
 -- the fault of what follows a member is that of its weight
@@ -137,20 +138,20 @@ module _ (lim : Limits) (few : lim.members ≤ 64) (line : List ℕ) (q : ℕ) (
     pub tail : List ℕ
     pub at : ℕ
     pub named : Named lim entries
-    pub fresh : AllByRecursion (λ f. weight_of row (member f) ≡ 0) entries
+    pub fresh : AllByRecursion (λ f. weights_of row (member f) ≡ 0) entries
     pub is : drop p line ≡ flat_map text entries ++ tail
     pub place_is : q ≡ p + (length (flat_map text entries) + at)
     pub here : Here (with_weights row entries) tail at
 
   added :
-      (row : List Element) (p : ℕ) (i : ItemOf) (m : ℕ) → length row ≡ 64 → m < 64 → weight_of row m ≡ 0 → p < i.after.0
+      (row : List Element) (p : ℕ) (i : ItemOf) (m : ℕ) → length row ≡ 64 → m < 64 → weights_of row m ≡ 0 → p < i.after.0
       → i.after.0 ≤ length line → Was lim line p i m → After (set row i.member.0 i.weight) i.after.0 → After row p
   added row p i m long below unset on within w b =
       let e : Entry = w.entry in
       let set_is : set row i.member.0 i.weight ≡ set row (member e) (code (weight e)) =
       ap (λ k. set row k i.weight) (w.member_is ∙ sym w.of_member) ∙ ap (set row (member e)) w.weight_is in
-      let clean : AllByRecursion (λ f. weight_of (set row (member e) (code (weight e))) (member f) ≡ 0) b.entries =
-      subst (λ r. AllByRecursion (λ f. weight_of r (member f) ≡ 0) b.entries) set_is b.fresh in
+      let clean : AllByRecursion (λ f. weights_of (set row (member e) (code (weight e))) (member f) ≡ 0) b.entries =
+      subst (λ r. AllByRecursion (λ f. weights_of r (member f) ≡ 0) b.entries) set_is b.fresh in
       let in_row : member e < length row = let o = w.of_member in omega arith in
       let both = All-weaker _ _ (apart row (member e) (weight e) in_row w.some) b.entries clean in
       let n = ap length w.is ∙ length-append (text e) (drop i.after.0 line) in
@@ -167,7 +168,7 @@ module _ (lim : Limits) (few : lim.members ≤ 64) (line : List ℕ) (q : ℕ) (
               in_range = (w.in_range, b.named.in_range);
               apart = (All-weaker _ (λ f. member f ≢ member e) (λ f h. h.0) b.entries both, b.named.apart);
             };
-        fresh = (ap (weight_of row) w.of_member ∙ unset, All-weaker _ (λ f. weight_of row (member f) ≡ 0) (λ f h. h.1) b.entries both);
+        fresh = (ap (weights_of row) w.of_member ∙ unset, All-weaker _ (λ f. weights_of row (member f) ≡ 0) (λ f h. h.1) b.entries both);
         is = w.is ∙ ap (λ u. text e ++ u) b.is ∙ sym (append_assoc (text e) (flat_map text b.entries) b.tail);
         place_is = omega arith;
         here = subst (λ r. Here (with_weights r b.entries) b.tail b.at) set_is b.here;

@@ -12,6 +12,11 @@ use Rattle.query.specs.declared.lines.Request.TheVariants.{Ask, Try, Witness, Re
 use Rattle.query.specs.Numbers.{byte_at}
 use Rattle.query.specs.Items.{code, then, no_weights, read_spaced_lem, read_items_lem}
 use Rattle.query.specs.Lines.{of_line, read_witness_lem, by_kind, reading}
+use Rattle.query.proofs.Checks.{ok_same}
+
+pub of_line_ok : {A : Type 0} (r : Result A ItemFault) (x : A) → of_line r ≡ Ok x → r ≡ Ok x
+of_line_ok (Ok y) x e = ap Ok (ok_same _ _ e)
+of_line_ok (Err f) x e = absurd (let z : ◌≡◌ {A = ℕ} 0 1 = cc in omega arith)
 
 module _ (lim : Limits) (line : List ℕ) (p : ℕ) where
   after_element : Numeral → Numeral → Result Request LineFault

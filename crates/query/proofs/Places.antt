@@ -22,6 +22,7 @@ use Rattle.query.specs.Laws.{Within}
 use Rattle.query.proofs.Bytes.{stands-front}
 use Rattle.query.proofs.Checks.{number_ok, number_moves}
 use Rattle.query.proofs.ItemChecks.{spaced_ok, spaced_moves, item_moves}
+use Rattle.query.proofs.LineChecks.{of_line_ok}
 
 -- the place of a fault, in each layer
 abbrev at_number : NumberFault → ℕ
@@ -83,10 +84,6 @@ item_of k (Err f) h = here at_item k _ (h.fault f refl)
 line_of : {A : Type 0} (k : ℕ) (r : Result A ItemFault) → UpTo at_item k r → UpTo at_line k (of_line r)
 line_of k (Ok x) h = none at_line k x
 line_of k (Err f) h = here at_line k _ (h.fault f refl)
-
-of_line_ok : {A : Type 0} (r : Result A ItemFault) (x : A) → of_line r ≡ Ok x → r ≡ Ok x
-of_line_ok (Ok y) x e = let same : y ≡ x = cc in ap Ok same
-of_line_ok (Err f) x e = absurd (let z : ◌≡◌ {A = ℕ} 0 1 = cc in omega arith)
 
 module _ (line : List ℕ) where
   -- a byte that stands at a place is one of the line's

@@ -3,9 +3,10 @@ use Rattle.std.proofs.Common.{◌≡◌, ℕ, ◌<◌, ◌≤◌, ◌≢◌, ◌
 use Rattle.std.specs.List.{AllByRecursion}
 use Rattle.std.proofs.lemmas.List.{length-set, get_or-set_same, get_or-set_other}
 use Rattle.std.proofs.lemmas.Bool.{cases_eq}
+use Rattle.field.specs.Sums.{weights_of}
 use Rattle.field.specs.declared.Element.{Element}
 use Rattle.query.specs.declared.items.Limits.{Limits}
-use Rattle.query.specs.Items.{code, weight_of}
+use Rattle.query.specs.Items.{code}
 use Rattle.query.specs.Grammar.{Entry, alone, weighted, member, weight, InRange, with_weights}
 use Rattle.query.specs.Firsts.{Has}
 
@@ -27,7 +28,7 @@ decide m (e ∷ es) =
 -- entries of other members leave a weight as it is
 kept :
     (m : ℕ) (es : List Entry) (row : List Element) → AllByRecursion (λ f. member f ≢ m) es
-    → weight_of (with_weights row es) m ≡ weight_of row m
+    → weights_of (with_weights row es) m ≡ weights_of row m
 kept m [] row a = refl
 kept m (e ∷ es) row a =
     kept m es (set row (member e) (code (weight e))) a.1
@@ -37,7 +38,7 @@ module _ (lim : Limits) (few : lim.members ≤ 64) (m : ℕ) where
   -- a member that an entry names has a weight
   has_weight :
       (es : List Entry) (row : List Element) → length row ≡ 64 → AllByRecursion (InRange lim) es → Has m es
-      → weight_of (with_weights row es) m ≡ 0 → ⊥
+      → weights_of (with_weights row es) m ≡ 0 → ⊥
   has_weight [] row long range h z = h
   has_weight (e ∷ es) row long range h z =
       let next : List Element = set row (member e) (code (weight e)) in
@@ -48,18 +49,18 @@ module _ (lim : Limits) (few : lim.members ≤ 64) (m : ℕ) where
       (λ others.
       let below : member e < length row = let b = member_below lim e range.0 in omega arith in
       let set_so = ap (λ x. x.0) (get_or-set_same row (member e) (code (weight e)) (code 0) below) in
-      let none : weight_of next (member e) ≡ 0 = ap (weight_of next) same ∙ sym (kept m es next others) ∙ z in
+      let none : weights_of next (member e) ≡ 0 = ap (weights_of next) same ∙ sym (kept m es next others) ∙ z in
       let some = some_weight lim e range.0 in omega arith)
       (decide m es))
       later h
 
   pub unnamed_apart :
       (es : List Entry) (row : List Element) → length row ≡ 64 → AllByRecursion (InRange lim) es
-      → weight_of (with_weights row es) m ≡ 0 → AllByRecursion (λ f. member f ≢ m) es
+      → weights_of (with_weights row es) m ≡ 0 → AllByRecursion (λ f. member f ≢ m) es
   unnamed_apart es row long range z =
       ⊎_elim (λ h. absurd (has_weight es row long range h z)) (λ a. a) (decide m es)
 
   pub named_has :
-      (es : List Entry) (row : List Element) → weight_of row m ≡ 0 → weight_of (with_weights row es) m ≢ 0 → Has m es
+      (es : List Entry) (row : List Element) → weights_of row m ≡ 0 → weights_of (with_weights row es) m ≢ 0 → Has m es
   named_has es row z some =
       ⊎_elim (λ h. h) (λ a. absurd (some (kept m es row a ∙ z))) (decide m es)

@@ -4,6 +4,7 @@ use Rattle.std.specs.List.{flat_map, AllByRecursion}
 use Rattle.std.proofs.lemmas.List.{append-nil, drop_all, length-set, get_or-set_same, get_or-set_other}
 use Rattle.std.proofs.ByRecursion.{All-weaker}
 use Rattle.std.proofs.lemmas.Bool.{cases_Bool, cases_eq, cases_lt, eqb-true, ltb-false, cond-true, cond-false}
+use Rattle.field.specs.Sums.{weights_of}
 use Rattle.field.specs.declared.Element.{Element}
 use Rattle.query.specs.declared.faults.ItemFault.{ItemFault}
 use Rattle.query.specs.declared.numbers.Numeral.{Numeral}
@@ -12,15 +13,15 @@ use Rattle.query.specs.declared.items.Item.{Item}
 use Rattle.query.specs.declared.items.Weights.{Weights}
 use Rattle.query.specs.declared.lines.Request.{Request}
 use Rattle.query.specs.declared.lines.Request.TheVariants.{Ask, Try, Witness, Remark}
-use Rattle.query.specs.Items.{code, no_weights, weight_of, read_spaced_lem, items_in, read_items_lem}
-use Rattle.query.specs.Lines.{of_line, read_witness_lem, by_kind, reading}
+use Rattle.query.specs.Items.{code, no_weights, read_spaced_lem, items_in, read_items_lem}
+use Rattle.query.specs.Lines.{read_witness_lem, by_kind, reading}
 use Rattle.query.specs.Grammar.{Entry, alone, weighted, member, weight, text, InRange, Named, with_weights, Spells, ask, try, witness, remark, Accepted}
 use Rattle.query.proofs.Bytes.{stands-front}
 use Rattle.query.proofs.Checks.{ok_same, past_fault, number_ok}
 use Rattle.query.proofs.Decimals.{was_decimal}
 use Rattle.query.proofs.ItemChecks as items
 use Rattle.query.proofs.ItemChecks.{Weighed, then_ok, spaced_ok, item_ok, item_moves}
-use Rattle.query.proofs.LineChecks.{rows, kind-ask, kind-try, kind-witness, kind_none, reading-remark, reading_long, reading-short}
+use Rattle.query.proofs.LineChecks.{of_line_ok, rows, kind-ask, kind-try, kind-witness, kind_none, reading-remark, reading_long, reading-short}
 
 pub spaced_was :
     (limit : ℕ) (line : List ℕ) (p : ℕ) (x : Numeral) → read_spaced_lem limit line p ≡ Ok x
@@ -79,23 +80,23 @@ record Entries (lim : Limits) (row : List Element) (rest : List ℕ) (final : Li
   others : List Entry
   is : rest ≡ flat_map text (first ∷ others)
   named : Named lim (first ∷ others)
-  fresh : AllByRecursion (λ f. weight_of row (member f) ≡ 0) (first ∷ others)
+  fresh : AllByRecursion (λ f. weights_of row (member f) ≡ 0) (first ∷ others)
   final_is : final ≡ with_weights row (first ∷ others)
 
 -- a member unnamed after a weight was set is another one, and was unnamed before
 pub apart :
-    (row : List Element) (m w : ℕ) → m < length row → 0 < w → (f : Entry) → weight_of (set row m (code w)) (member f) ≡ 0
-    → (member f ≢ m) × (weight_of row (member f) ≡ 0)
+    (row : List Element) (m w : ℕ) → m < length row → 0 < w → (f : Entry) → weights_of (set row m (code w)) (member f) ≡ 0
+    → (member f ≢ m) × (weights_of row (member f) ≡ 0)
 apart row m w h s f z =
     let other : member f ≢ m =
     λ e.
-    let k : weight_of (set row m (code w)) m ≡ 0 = ap (weight_of (set row m (code w))) (sym e) ∙ z in
+    let k : weights_of (set row m (code w)) m ≡ 0 = ap (weights_of (set row m (code w))) (sym e) ∙ z in
     let same = ap (λ x. x.0) (get_or-set_same row m (code w) (code 0) h) in omega arith in
     (other, ap (λ x. x.0) (sym (get_or-set_other row m (member f) (code w) (code 0) other)) ∙ z)
 
 entered :
     (lim : Limits) (row : List Element) (line : List ℕ) (p : ℕ) (i : Item) (m : ℕ) (final : List Element) → length row ≡ 64
-    → m < 64 → weight_of row m ≡ 0 → (w : Was lim line p i m)
+    → m < 64 → weights_of row m ≡ 0 → (w : Was lim line p i m)
     → ((drop i.after.0 line ≡ []) × (final ≡ set row i.member.0 i.weight))
     ⊎ Entries lim (set row i.member.0 i.weight) (drop i.after.0 line) final
     → Entries lim row (drop p line) final
@@ -105,7 +106,7 @@ entered lim row line p i m final long below unnamed w (inl last) =
       others = [];
       is = w.is ∙ ap (λ u. text w.entry ++ u) last.0;
       named = record { in_range = (w.in_range, tt); apart = (tt, tt) };
-      fresh = (ap (weight_of row) w.of_member ∙ unnamed, tt);
+      fresh = (ap (weights_of row) w.of_member ∙ unnamed, tt);
       final_is =
           last.1 ∙ ap (λ k. set row k i.weight) (w.member_is ∙ sym w.of_member) ∙ ap (set row (member w.entry)) w.weight_is;
     }
@@ -113,8 +114,8 @@ entered lim row line p i m final long below unnamed w (inr more) =
     let set_is : set row i.member.0 i.weight ≡ set row (member w.entry) (code (weight w.entry)) =
     ap (λ k. set row k i.weight) (w.member_is ∙ sym w.of_member) ∙ ap (set row (member w.entry)) w.weight_is in
     let es : List Entry = more.first ∷ more.others in
-    let clean : AllByRecursion (λ f. weight_of (set row (member w.entry) (code (weight w.entry))) (member f) ≡ 0) es =
-    subst (λ r. AllByRecursion (λ f. weight_of r (member f) ≡ 0) es) set_is more.fresh in
+    let clean : AllByRecursion (λ f. weights_of (set row (member w.entry) (code (weight w.entry))) (member f) ≡ 0) es =
+    subst (λ r. AllByRecursion (λ f. weights_of r (member f) ≡ 0) es) set_is more.fresh in
     let at : member w.entry < length row = let o = w.of_member in omega arith in
     let both = All-weaker _ _ (apart row (member w.entry) (weight w.entry) at w.some) es clean in
     record {
@@ -126,7 +127,7 @@ entered lim row line p i m final long below unnamed w (inr more) =
             in_range = (w.in_range, more.named.in_range);
             apart = (All-weaker _ (λ f. member f ≢ member w.entry) (λ f h. h.0) es both, more.named.apart);
           };
-      fresh = (ap (weight_of row) w.of_member ∙ unnamed, All-weaker _ (λ f. weight_of row (member f) ≡ 0) (λ f h. h.1) es both);
+      fresh = (ap (weights_of row) w.of_member ∙ unnamed, All-weaker _ (λ f. weights_of row (member f) ≡ 0) (λ f h. h.1) es both);
       final_is = more.final_is ∙ ap (λ r. with_weights r es) set_is;
     }
 
@@ -159,10 +160,6 @@ module _ (lim : Limits) (few : lim.members ≤ 64) (line : List ℕ) where
       (p : ℕ) (ws : Weights) → read_items_lem lim no_weights line p ≡ Ok ws → Entries lim no_weights (drop p line) ws.0
   unfolding read_items_lem
   rows_were p ws e = items_were (length line - p) no_weights p ws refl e
-
-pub of_line_ok : {A : Type 0} (r : Result A ItemFault) (x : A) → of_line r ≡ Ok x → r ≡ Ok x
-of_line_ok (Ok y) x e = ap Ok (ok_same _ _ e)
-of_line_ok (Err f) x e = absurd (let z : ◌≡◌ {A = ℕ} 0 1 = cc in omega arith)
 
 rows_ok :
     (make : Weights → Request) (r : Result Weights ItemFault) (q : Request) → rows make r ≡ Ok q

@@ -22,8 +22,7 @@ use Rattle.query.specs.Items.{no_weights, names, then, of_item, read_spaced_lem,
 use Rattle.query.specs.Lines.{of_line, read_witness_lem, by_kind, reading}
 use Rattle.query.proofs.Bytes.{byte_past}
 use Rattle.query.proofs.ItemChecks.{Weighed, item_ok, item_moves}
-use Rattle.query.proofs.LineChecks.{rows, kind-ask, kind-try, kind-witness, kind_none}
-use Rattle.query.proofs.Soundness.{of_line_ok}
+use Rattle.query.proofs.LineChecks.{of_line_ok, rows, kind-ask, kind-try, kind-witness, kind_none}
 
 -- by cases, with what is split first
 pub split : {A B C : Type 0} → A ⊎ B → (A → C) → (B → C) → C

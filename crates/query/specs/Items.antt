@@ -3,7 +3,8 @@
 --   read_item_lem lim row line p         the item at a place, of a member that the row does not name
 --   read_items_lem lim row line p        the row with the weights of all items from a place on to the line's end
 -- Assumes nothing.
-use Rattle.std.specs.Prelude.{ℕ, zero, suc, ◌+◌, ◌-◌, Bool, cond, not, List, length, replicate, Ok, Err, Result, ◌==◌, slice_index_or, slice_set}
+use Rattle.std.specs.Prelude.{ℕ, zero, suc, ◌+◌, ◌-◌, Bool, cond, not, List, length, replicate, Ok, Err, Result, ◌==◌, slice_set}
+use Rattle.field.specs.Sums.{weights_of}
 use Rattle.field.specs.declared.Element.{Element}
 use Rattle.query.specs.declared.faults.NumberFault.{NumberFault}
 use Rattle.query.specs.declared.faults.ItemFault.{ItemFault}
@@ -20,13 +21,9 @@ code e = record { 0 = e }
 abbrev pub no_weights : List Element
 no_weights = replicate 64 (code 0)
 
--- the weight of a member in a row
-abbrev pub weight_of : List Element → ℕ → ℕ
-weight_of row m = (slice_index_or row m (code 0)).0
-
 -- whether a row names a member: its weight there is not 0
 abbrev pub names : List Element → ℕ → Bool
-names row m = not (weight_of row m == 0)
+names row m = not (weights_of row m == 0)
 
 -- what to do with a value, where there is no fault
 abbrev pub then : {A B E : Type 0} → Result A E → (A → Result B E) → Result B E

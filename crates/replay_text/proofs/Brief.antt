@@ -87,7 +87,7 @@ module _ (M : FieldModel) (L : FieldLaws M) (n : ℕ) (few : n ≤ 64) (t : Vect
   figure-below h lawful k v r (answer_refused j not) is = absurd (let z : ◌≡◌ {A = ℕ} 0 1 = cc in omega arith)
   figure-below h lawful k v r (answered_with j o at same) is =
       let known = after M L n t ct s sane h lawful in
-      let code = figure_code M L n t ct s o _ _ (known.open_facts o at) in
+      let code = figure_code M L n t ct s o _ (known.open_facts o at) in
       let value : sum M n (weights_of o.weights) t ≡ v = cc in subst (λ (x : ℕ). x < M.size) value code
 
   pub due_brief : (h : List Event) → Lawful M n t s h → (c : Call) (r : Reply) → Due M n t s h c r → Short r

@@ -1,9 +1,9 @@
 -- A replay of query text: what it prints and logs, and where it stops.
 --   NoNewline bs             no byte is a newline
 --   printed k r              what line k prints: nothing for a remark
---   Lines M n t s h₀ room log-room k text h out rows   the text is k whole lines, each handled in turn with room enough
+--   Lines M n t s h₀ room log_room k text h out rows   the text is k whole lines, each handled in turn with room enough
 --                            before it; after them the history is h, `out` is printed, and `rows` were answered
---   Stops rest room log-room e   why no line of the rest is handled, where so many bytes are left: a stop, or none at the text's end
+--   Stops rest room log_room e   why no line of the rest is handled, where so many bytes are left: a stop, or none at the text's end
 --   stop_number_lem, stop_line_lem   a stop as two numbers, both 0 where there is none
 --   Replayed M n t s h text answers log r h' answers' log'   what the replay of a text answers and leaves
 -- Rows and histories have the newest first. Assumes nothing.
@@ -31,20 +31,20 @@ abbrev pub printed : ℕ → Option Reply → List ℕ
 printed k None = []
 printed k (Some r) = answer_line k r
 
-pub data Lines (M : FieldModel) (n : ℕ) (t : Vector) (s : Start) (h₀ : List Event) (room log-room : ℕ) :
+pub data Lines (M : FieldModel) (n : ℕ) (t : Vector) (s : Start) (h₀ : List Event) (room log_room : ℕ) :
     ℕ → List ℕ → List Event → List ℕ → List Figured → Type 0 where
-  none_yet : Lines M n t s h₀ room log-room 0 [] h₀ [] []
+  none_yet : Lines M n t s h₀ room log_room 0 [] h₀ [] []
   one_more :
-      (k : ℕ) (text : List ℕ) (h : List Event) (out : List ℕ) (rows : List Figured) → Lines M n t s h₀ room log-room k text h out rows
-      → length out + 392 ≤ room → length (log_bytes M n rows) + 139 ≤ log-room
+      (k : ℕ) (text : List ℕ) (h : List Event) (out : List ℕ) (rows : List Figured) → Lines M n t s h₀ room log_room k text h out rows
+      → length out + 392 ≤ room → length (log_bytes M n rows) + 139 ≤ log_room
       → (line : List ℕ) → NoNewline line → (r : Option Reply) (new : List Figured) (h' : List Event) → Handled M n t s h line r new h'
-      → Lines M n t s h₀ room log-room (k + 1) (text ++ (line ++ (10 ∷ []))) h' (out ++ printed (k + 1) r) (new ++ rows)
+      → Lines M n t s h₀ room log_room (k + 1) (text ++ (line ++ (10 ∷ []))) h' (out ++ printed (k + 1) r) (new ++ rows)
 
-pub data Stops (rest : List ℕ) (room log-room : ℕ) : Option Refusal → Type 0 where
-  at_the_end : length rest ≡ 0 → Stops rest room log-room None
-  answers_full : 1 ≤ length rest → room < 392 → Stops rest room log-room (Some AnswersFull)
-  log_full : 1 ≤ length rest → 392 ≤ room → log-room < 139 → Stops rest room log-room (Some LogFull)
-  not_ended : 1 ≤ length rest → 392 ≤ room → 139 ≤ log-room → NoNewline rest → Stops rest room log-room (Some LineNotEnded)
+pub data Stops (rest : List ℕ) (room log_room : ℕ) : Option Refusal → Type 0 where
+  at_the_end : length rest ≡ 0 → Stops rest room log_room None
+  answers_full : 1 ≤ length rest → room < 392 → Stops rest room log_room (Some AnswersFull)
+  log_full : 1 ≤ length rest → 392 ≤ room → log_room < 139 → Stops rest room log_room (Some LogFull)
+  not_ended : 1 ≤ length rest → 392 ≤ room → 139 ≤ log_room → NoNewline rest → Stops rest room log_room (Some LineNotEnded)
 
 -- a stop before a line
 abbrev pub stopped : ℕ → Option Refusal → Option Stop

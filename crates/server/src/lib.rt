@@ -1,4 +1,4 @@
-// Servers: what the survey asks for its members' elements. Three makes of server, and the sum of a row over any of them.
+// Servers: what the survey asks for its members' elements. Two makes of server, and the sum of a row over any of them.
 #![tactic(auto)]
 
 ghost use Rattle.std.specs.Prelude.{◌≡◌, ℕ, ◌<◌, ◌≤◌, min, max, List, length, Decides, MatchOption, slice_index};

@@ -1,5 +1,5 @@
 -- Table files: the kind byte, the count n, the member map, then the values of the named members in rising order.
---   count_of, map_of            the count byte; the bytes from the map on
+--   count_of, map_of            the count byte, as of every header; the bytes from the map on
 --   value_place M bs m          where the value of member m stands, or would stand
 --   file_value M bs m           the code of member m: the stored one if the map names m, else 0
 --   file_table M bs             the table that the file means
@@ -7,7 +7,7 @@
 --   Faulty M bs m               member m is named, and its stored code is no element, or 0
 --   FileCheck M bs r            r is the answer for these bytes, a refusal or none, in the order of the checks
 -- Assumes nothing.
-use Rattle.std.specs.Prelude.{◌≡◌, ℕ, ◌+◌, ◌*◌, ◌<◌, ◌≤◌, true, false, ◌≢◌, ◌⊎◌, List, map, length, drop, Some, None, Option, slice_index, slice_index_or}
+use Rattle.std.specs.Prelude.{◌≡◌, ℕ, ◌+◌, ◌*◌, ◌<◌, ◌≤◌, true, false, ◌≢◌, ◌⊎◌, List, map, length, drop, Some, None, Option, slice_index}
 use Rattle.std.specs.List.{range_with_len}
 use Rattle.refusal.specs.declared.Refusal.{Refusal}
 use Rattle.refusal.specs.declared.Refusal.TheVariants.{WrongLength, WrongKind, WrongCount, StrayMapBit, NotAnElement, StoredZero}
@@ -16,9 +16,7 @@ use Rattle.field.specs.Model.{FieldModel}
 use Rattle.field.specs.Bytes.{width, code_at}
 use Rattle.server.specs.Checks.{Lowest, Count}
 use Rattle.member_map.specs.Maps.{map_length_lem, named, named_below, Stray}
-
-abbrev pub count_of : List ℕ → ℕ
-count_of bs = slice_index bs 1
+pub use Rattle.stored.specs.Stored.{count_of, Headed}
 
 abbrev pub map_of : List ℕ → List ℕ
 map_of bs = drop 2 bs
@@ -31,11 +29,6 @@ file_value M bs m = elim (named (map_of bs) m) [ true ↦ code_at M bs (value_pl
 
 abbrev pub file_table : FieldModel → List ℕ → List ℕ
 file_table M bs = map (file_value M bs) (range_with_len 0 (count_of bs))
-
-pub record Headed (M : FieldModel) (bs : List ℕ) : Type 0 where
-  pub header : 2 ≤ length bs
-  pub kind : slice_index_or bs 0 0 ≡ M.kind
-  pub count : Count (count_of bs)
 
 pub record Mapped (M : FieldModel) (bs : List ℕ) : Type 0 where
   pub headed : Headed M bs

@@ -4,7 +4,7 @@ use borrow.Author.Tests.{clash}
 use Rattle.amounts.specs.Prime.{amounts}
 use Rattle.server.specs.Tables.{value_at}
 use Rattle.member_map.specs.Maps.{named, named_below}
-use Rattle.table_file.specs.Files.{count_of, map_of, file_value, file_table, Framed, Faulty, FileCheck}
+use Rattle.table_file.specs.Files.{map_of, file_table, Framed, Faulty, FileCheck}
 use Rattle.table_file.specs.Files as files
 use Rattle.answer_log.specs.Rows.{bits, map_bytes, plain, weight_bytes, row_bytes}
 use Rattle.worked_cases.specs.Cases.{file_bytes}

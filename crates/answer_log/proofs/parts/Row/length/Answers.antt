@@ -1,4 +1,4 @@
--- Answers for `row_length`: the parts of a row.
+-- Answers for `length`: the parts of a row.
 use Rattle.std.proofs.Common.{length, arith}
 use Rattle.field.specs.Sums.{weights_of}
 use Rattle.answer_log.proofs.Buffers.{row-size}

@@ -1,7 +1,8 @@
 -- Answers for `count_named`: the mark and the map.
 use Rattle.std.proofs.Common.{sym, ◌∙◌, arith}
 use Rattle.answer_log.specs.Entries.{Mapped, unknown_mark, map_cut, stray_bit, none_named}
-use Rattle.answer_log.proofs.Readers.{stray_of, none_stray, count_is, some_given, none_given}
+use Rattle.record.proofs.Told.{none_told, some_told}
+use Rattle.answer_log.proofs.Readers.{stray_of, none_stray, count_is}
 use Rattle.answer_log.proofs.reading.RowBytes.count_named.Goals as goal
 
 pub returns-then-mark-gt1 : goal.returns-then-mark-gt1
@@ -19,7 +20,7 @@ returns-then-is_some g c =
       known = omega (arith, c.mark.ensures);
       whole = omega (arith, c.map_length.ensures);
     } in
-    let found = some_given _ _ _ (sym c.is_some.ensures ∙ c.if-is_some.true) c.stray_bit.ensures in
+    let found = some_told _ _ _ (sym c.is_some.ensures ∙ c.if-is_some.true) c.stray_bit.ensures in
     stray_bit mapped _ (stray_of bs c.args.self.now.count _ found.1.0)
 
 pub returns-then-named-eq0 : goal.returns-then-named-eq0
@@ -30,5 +31,5 @@ returns-then-named-eq0 g c =
       known = omega (arith, c.mark.ensures);
       whole = omega (arith, c.map_length.ensures);
     } in
-    none_named mapped (none_stray bs c.args.self.now.count (none_given _ _ _ (sym c.is_some.ensures ∙ c.if-is_some.false) c.stray_bit.ensures))
+    none_named mapped (none_stray bs c.args.self.now.count (none_told _ _ _ (sym c.is_some.ensures ∙ c.if-is_some.false) c.stray_bit.ensures))
     (sym (count_is bs c.args.self.now.count c.args.self.now.count _ c.named_count-named.ensures) ∙ c.if-named-eq0.true)

@@ -1,4 +1,4 @@
--- Answers for `read_first`: the figure, and the row.
+-- Answers for `read`: the figure, and the row.
 use Rattle.std.proofs.Common.{◌+◌, ◌≤◌, length, ap, ◌∙◌, ap₂, arith}
 use Rattle.field.specs.Bytes.{code_at, width}
 use Rattle.answer_log.specs.Entries.{figure_place, row_length_lem, row_figure, no_figure, accepted}
