@@ -4,12 +4,13 @@ use crate::cases::Case;
 use amounts::Amounts;
 use std::io;
 
-const HEADERS: [Case; 13] = [
+const HEADERS: [Case; 14] = [
     ("no bytes", 3, &[]),
     ("one byte", 3, &[1]),
     ("one byte of another kind", 3, &[2]),
     ("another kind", 3, &[2, 3]),
     ("another kind, count 0", 3, &[2, 0]),
+    ("another kind, count 4", 3, &[2, 4]),
     ("count 0", 3, &[1, 0]),
     ("count 65", 3, &[1, 65]),
     ("count 65, for 65", 65, &[1, 65]),

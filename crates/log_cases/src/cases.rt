@@ -1,19 +1,19 @@
 // A list of logs, each read for a server of so many members.
-use answer_log::rewrite;
 use field::Field;
-use log_record::{ReadLog, read_record};
+use log_record::{ReadLog, read_record, rewrite_accepted};
 use record::{Record, Room, RowNumber};
 use shown::{Answered, Row};
+use std::alloc::{AllocError, Global};
 use std::io;
 
 // The name, the count of members, and the log: a tuple, so that a list of logs has one line for each.
 pub(crate) type Case<'a> = (&'a str, usize, &'a [u8]);
 
-// Whether a log is written again as the bytes that it was read from: two lines, which only a buffer of another length
-// tells from those of generated logs.
-fn again<F: Field>(log: &[u8], n: usize) -> bool {
+// Whether a log is written again as the bytes that it was read from.
+fn again<F: Field>(heap: Global, log: &[u8], n: usize) -> Result<bool, AllocError> {
     let mut out = [0; 64];
-    rewrite::<F>(log, n, &mut out).is_ok_and(|written| out.get(..written) == Some(log))
+    let written = rewrite_accepted::<F>(Room::new(heap)?, n, log, &mut out);
+    Ok(written.is_ok_and(|length| out.get(..length) == Some(log)))
 }
 
 fn rows<F: Field>(rt: &HostRuntime, rec: &Record<F>) -> io::Result<()> {
@@ -31,7 +31,7 @@ fn one<F: Field>(rt: &HostRuntime, case: &str, n: usize, log: &[u8]) -> io::Resu
     let ReadLog { record, refusal } = read_record::<F>(Room::new(rt.alloc())?, n, log);
     let answer = match refusal {
         Some(refusal) => Err(refusal),
-        None if again::<F>(log, n) => Ok("accepted, and written again the same"),
+        None if again::<F>(rt.alloc(), log, n)? => Ok("accepted, and written again the same"),
         None => Ok("accepted, and written again otherwise"),
     };
     println!(rt; "{case}: {}", Answered(answer))?;

@@ -21,8 +21,7 @@ fn same_rows<F: Field>(a: &Record<F>, b: &Record<F>) -> bool {
             .all(|k| a.row(k) == b.row(k))
 }
 
-// Whether a log is written again as the same bytes: two lines, which only a buffer of another length tells from those of
-// the worked cases.
+// Whether a log is written again as the same bytes.
 fn again<F: Field>(log: &[u8], n: usize) -> bool {
     let mut out = [0; 2048];
     rewrite::<F>(log, n, &mut out).is_ok_and(|written| out.get(..written) == Some(log))

@@ -9,3 +9,4 @@ pub mod Once
 pub mod Sane
 pub mod Possible
 pub mod Formed
+pub mod Order

@@ -14,7 +14,7 @@ use Rattle.answer_log.proofs.Readers.{row_within}
 use Rattle.log_record.specs.Joins.{rows_bytes, row_with, joins, RowsJoin, no_more, next_row, rows}
 use Rattle.log_record.specs.Theorems.{Bytes, InOrder, AcceptedIsWritten, WrittenIsAccepted}
 
-no_bytes : (bs : List ℕ) → length bs ≡ 0 → bs ≡ []
+pub no_bytes : (bs : List ℕ) → length bs ≡ 0 → bs ≡ []
 no_bytes [] e = refl
 no_bytes (b ∷ bs) e = absurd (omega arith)
 

@@ -2,8 +2,10 @@
 --   Bytes bs             each is below 256
 --   RowFine M n g        a row that a log can hold: elements, 0 from the count on, some member named
 --   InOrder M n given    each row given is fine, pins nobody with those before it, and contradicts none of them
+--   AllFine M n given    each row given is fine, whatever a record makes of it
 -- Assumes nothing.
 use Rattle.std.specs.Prelude.{◌≡◌, ℕ, ◌<◌, ◌≤◌, List, [], ◌∷◌, None, Option, slice_index}
+use Rattle.std.specs.List.{AllByRecursion}
 use Rattle.refusal.specs.declared.Refusal.{Refusal}
 use Rattle.field.specs.Model.{FieldModel, FieldLaws}
 use Rattle.field.specs.Sums.{Vector, Codes}
@@ -13,6 +15,7 @@ use Rattle.echelon.specs.Rows.{Figured, Fits}
 use Rattle.echelon.specs.Reduced.{FitsGiven}
 use Rattle.history.specs.Events.{Reply, Event, new_session, witnesses, fills, answered, given}
 use Rattle.history.specs.Law.{Due, Lawful}
+use Rattle.answer_log.specs.Logs.{LogCheck}
 use Rattle.log_record.specs.Joins.{log_bytes, PinsWith, Contradicts, LogRecord}
 
 abbrev pub Bytes : List ℕ → Type 0
@@ -29,6 +32,9 @@ InOrder M n [] = Unit {0}
 InOrder M n (g ∷ before) =
     RowFine M n g × ((i : ℕ) → PinsWith M n before g i → ⊥) × (Contradicts M n before g → ⊥) × InOrder M n before
 
+abbrev pub AllFine : FieldModel → ℕ → List Figured → Type 0
+AllFine M n given = AllByRecursion (RowFine M n) given
+
 -- An accepted log is exactly what its rows write.
 abbrev pub AcceptedIsWritten : Type 0
 AcceptedIsWritten =
@@ -40,6 +46,21 @@ abbrev pub WrittenIsAccepted : Type 0
 WrittenIsAccepted =
     (M : FieldModel) (n : ℕ) → Count n → (given : List Figured) → InOrder M n given
     → LogRecord M n (log_bytes M n given) None given
+
+-- The rows of an accepted log are in order: with the two theorems above, a log is accepted exactly where such rows write it.
+abbrev pub AcceptedIsInOrder : Type 0
+AcceptedIsInOrder =
+    (M : FieldModel) → FieldLaws M → (n : ℕ) (bs : List ℕ) (given : List Figured) → LogRecord M n bs None given
+    → Count n × InOrder M n given
+
+-- Apart from what the record refuses, reading takes exactly the logs that some rows write.
+pub record ReadIsWritten : Type 0 where
+  pub read :
+      (M : FieldModel) → FieldLaws M → (n : ℕ) (bs : List ℕ) → Bytes bs → LogCheck M n bs None
+      → Count n × ((given : List Figured) × AllFine M n given × (bs ≡ log_bytes M n given))
+  pub written :
+      (M : FieldModel) (n : ℕ) → Count n → (given : List Figured) → AllFine M n given
+      → LogCheck M n (log_bytes M n given) None
 
 -- A log of all that a new session answered, in order, is accepted, and gives the answered rows back.
 abbrev pub AnsweredIsAccepted : Type 0

@@ -1,5 +1,5 @@
 // What holds of every log. Each function stands for the theorem in its contract.
-ghost use Rattle.log_record.specs.Theorems.{AcceptedIsWritten, WrittenIsAccepted, AnsweredIsAccepted, OneAnswer, PossibleAfterALog};
+ghost use Rattle.log_record.specs.Theorems.{AcceptedIsWritten, WrittenIsAccepted, AcceptedIsInOrder, ReadIsWritten, AnsweredIsAccepted, OneAnswer, PossibleAfterALog};
 
 pub fn accepted_is_written()
     ensures { AcceptedIsWritten }
@@ -7,6 +7,14 @@ pub fn accepted_is_written()
 
 pub fn written_is_accepted()
     ensures { WrittenIsAccepted }
+{}
+
+pub fn accepted_is_in_order()
+    ensures { AcceptedIsInOrder }
+{}
+
+pub fn read_is_written()
+    ensures { ReadIsWritten }
 {}
 
 pub fn answered_is_accepted()

@@ -118,10 +118,10 @@ module _ (lim : Limits) (few : lim.members ≤ 64) (size : lim.size ≤ 65536) (
       ∙ items_read f fs (set row (member e) (code (weight e))) q
       (record { in_range = named.in_range.1; apart = named.apart.1 }) clean next
 
-not_remark : (b : ℕ) → (b ≡ 35 → ⊥) → Some b ≡ Some 35 → ⊥
+pub not_remark : (b : ℕ) → (b ≡ 35 → ⊥) → Some b ≡ Some 35 → ⊥
 not_remark b n e = let same : b ≡ 35 = cc in n same
 
-unnamed : (m : ℕ) → weights_of no_weights m ≡ 0
+pub unnamed : (m : ℕ) → weights_of no_weights m ≡ 0
 unnamed m =
     ap (λ x. x.0)
     (⊎_elim (λ h. get_or-replicate 64 m (code 0) (code 0) h) (λ h. get_or_past no_weights m (code 0) h) (cases_lt m 64))

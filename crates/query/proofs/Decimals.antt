@@ -29,6 +29,17 @@ one-zero : (v : ℕ) → v < 100000 → get_or (decimal v) 0 0 ≡ 48 → length
 one-zero zero h e = ap length (decimal_digit 0 (omega arith))
 one-zero (suc v) h e = let k = first_decimal (suc v) (omega arith) (omega arith) in absurd (omega arith)
 
+-- the digits of a number in range
+pub decimal_spelt :
+    (least limit v p : ℕ) → v < 100000 → least ≤ v → v < limit
+    → spelt least limit p (decimal v) ≡ Ok (record { start = place p; value = v; after = place (p + length (decimal v)) })
+decimal_spelt least limit v p small low high =
+    let fits : v < 2 ^ 64 = omega arith in
+    let w : worth 0 (decimal v) ≡ v = digits_value-decimal own v fits in
+    spelt_fine least limit p (decimal v) (decimal_nonempty v fits) (one-zero v small)
+    (length-decimal-le 5 v (omega arith) small fits) (rw w low) (rw w high)
+    ∙ ap (λ x. Ok (record { start = place p; value = x; after = place (p + length (decimal v)) })) w
+
 -- a number in decimal at a place, which no digit follows
 pub reads_decimal :
     (least limit v : ℕ) (line : List ℕ) (p : ℕ) (rest : List ℕ) → v < 100000 → least ≤ v → v < limit
@@ -38,11 +49,7 @@ unfolding read_number
 reads_decimal least limit v line p rest small low high e none =
     let fits : v < 2 ^ 64 = omega arith in
     let ds : digits (drop p line) ≡ decimal v = ap digits e ∙ digits_append (decimal v) rest (digits_decimal own v fits) none in
-    let w : worth 0 (decimal v) ≡ v = digits_value-decimal own v fits in
-    ap (spelt least limit p) ds
-    ∙ spelt_fine least limit p (decimal v) (decimal_nonempty v fits) (one-zero v small)
-    (length-decimal-le 5 v (omega arith) small fits) (rw w low) (rw w high)
-    ∙ ap (λ x. Ok (record { start = place p; value = x; after = place (p + length (decimal v)) })) w
+    ap (spelt least limit p) ds ∙ decimal_spelt least limit v p small low high
 
 pub reads_back : ReadsBack 100000
 reads_back v small least limit low high before rest none =

@@ -8,7 +8,7 @@ use Rattle.query.specs.Laws.{Exact}
 use Rattle.query.proofs.Soundness.{sound}
 use Rattle.query.proofs.Completeness.{complete}
 
-few : (n : ℕ) → min n 64 ≤ 64
+pub few : (n : ℕ) → min n 64 ≤ 64
 few n = omega arith
 
 pub exact :

@@ -12,3 +12,7 @@ pub mod Begins
 pub mod Parting
 pub mod Worked
 pub mod Places
+pub mod Rows
+pub mod NumberFaults
+pub mod ItemFaults
+pub mod FirstFaults

@@ -33,16 +33,16 @@ spaced_was limit line p x e =
     )
 
 -- an item that was read, as an entry
-record Was (lim : Limits) (line : List ℕ) (p : ℕ) (i : Item) (m : ℕ) : Type 0 where
-  entry : Entry
-  is : drop p line ≡ text entry ++ drop i.after.0 line
-  in_range : InRange lim entry
-  of_member : member entry ≡ m
-  member_is : i.member.0 ≡ m
-  weight_is : i.weight ≡ code (weight entry)
-  some : 0 < weight entry
+pub record Was (lim : Limits) (line : List ℕ) (p : ℕ) (i : Item) (m : ℕ) : Type 0 where
+  pub entry : Entry
+  pub is : drop p line ≡ text entry ++ drop i.after.0 line
+  pub in_range : InRange lim entry
+  pub of_member : member entry ≡ m
+  pub member_is : i.member.0 ≡ m
+  pub weight_is : i.weight ≡ code (weight entry)
+  pub some : 0 < weight entry
 
-weighed_was :
+pub weighed_was :
     (lim : Limits) (line : List ℕ) (p : ℕ) (m : Numeral) (i : Item) → read_spaced_lem lim.members line p ≡ Ok m
     → Weighed lim line m i → Was lim line p i m.value
 weighed_was lim line p m i e (items.plain f) =
@@ -84,7 +84,7 @@ record Entries (lim : Limits) (row : List Element) (rest : List ℕ) (final : Li
   final_is : final ≡ with_weights row (first ∷ others)
 
 -- a member unnamed after a weight was set is another one, and was unnamed before
-apart :
+pub apart :
     (row : List Element) (m w : ℕ) → m < length row → 0 < w → (f : Entry) → weights_of (set row m (code w)) (member f) ≡ 0
     → (member f ≢ m) × (weights_of row (member f) ≡ 0)
 apart row m w h s f z =

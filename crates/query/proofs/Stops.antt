@@ -25,7 +25,7 @@ use Rattle.query.proofs.ItemChecks.{Weighed, item_ok, item_moves}
 use Rattle.query.proofs.LineChecks.{of_line_ok, rows, kind-ask, kind-try, kind-witness, kind_none}
 
 -- by cases, with what is split first
-split : {A B C : Type 0} → A ⊎ B → (A → C) → (B → C) → C
+pub split : {A B C : Type 0} → A ⊎ B → (A → C) → (B → C) → C
 split (inl a) f g = f a
 split (inr b) f g = g b
 
@@ -35,26 +35,26 @@ same_place p q e = ap (λ x. x.0) (sym (let same : place p ≡ place q = cc in s
 pub err_same : {A E : Type 0} (f g : E) → ◌≡◌ {A = Result A E} (Err f) (Err g) → f ≡ g
 err_same f g e = cc
 
-no_err : {A E X : Type 0} (x : A) (f : E) → ◌≡◌ {A = Result A E} (Ok x) (Err f) → X
+pub no_err : {A E X : Type 0} (x : A) (f : E) → ◌≡◌ {A = Result A E} (Ok x) (Err f) → X
 no_err x f e = absurd (let z : ◌≡◌ {A = ℕ} 0 1 = cc in omega arith)
 
-cond_err :
+pub cond_err :
     {A E : Type 0} (t : Bool) (x y : Result A E) (f : E) → cond t x y ≡ Err f
     → ((t ≡ true) × (x ≡ Err f)) ⊎ ((t ≡ false) × (y ≡ Err f))
 cond_err true x y f e = inl (refl, e)
 cond_err false x y f e = inr (refl, e)
 
-then_err :
+pub then_err :
     {A B E : Type 0} (r : Result A E) (k : A → Result B E) (f : E) → then r k ≡ Err f
     → (r ≡ Err f) ⊎ ((x : A) × (r ≡ Ok x) × (k x ≡ Err f))
 then_err (Ok x) k f e = inr (x, refl, e)
 then_err (Err g) k f e = inl (ap Err (err_same _ _ e))
 
-of_item_err : {A : Type 0} (r : Result A NumberFault) (f : ItemFault) → of_item r ≡ Err f → (g : NumberFault) × (r ≡ Err g) × (Number g ≡ f)
+pub of_item_err : {A : Type 0} (r : Result A NumberFault) (f : ItemFault) → of_item r ≡ Err f → (g : NumberFault) × (r ≡ Err g) × (Number g ≡ f)
 of_item_err (Ok x) f e = no_err x f e
 of_item_err (Err g) f e = (g, refl, err_same _ _ e)
 
-of_line_err : {A : Type 0} (r : Result A ItemFault) (f : LineFault) → of_line r ≡ Err f → (g : ItemFault) × (r ≡ Err g) × (Item g ≡ f)
+pub of_line_err : {A : Type 0} (r : Result A ItemFault) (f : LineFault) → of_line r ≡ Err f → (g : ItemFault) × (r ≡ Err g) × (Item g ≡ f)
 of_line_err (Ok x) f e = no_err x f e
 of_line_err (Err g) f e = (g, refl, err_same _ _ e)
 

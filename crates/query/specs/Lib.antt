@@ -4,5 +4,6 @@ pub mod Items
 pub mod Lines
 pub mod Grammar
 pub mod Shape
+pub mod Firsts
 pub mod Laws
 pub mod Worked

@@ -2,6 +2,7 @@
 ghost use Rattle.std.specs.Prelude.{◌≡◌};
 ghost use Rattle.query.specs.Lines.{read_witness_lem, limits, reading};
 ghost use Rattle.query.specs.Laws.{Exact, Parts, Within};
+ghost use Rattle.query.specs.Firsts.{Firsts};
 
 use crate::faults::LineFault;
 use crate::items::{Limits, Weights};
@@ -56,6 +57,7 @@ pub fn read_line<F: Field>(line: &[u8], n: usize) -> Result<Request, LineFault>
     ensures is { result ≡ reading (limits F.model n) line.now }
     ensures exact { Exact (limits F.model n) line.now result }
     ensures parts { Parts line.now result }
+    ensures firsts { Firsts (limits F.model n) line.now result }
     ensures within { Within line.now result }
 {
     let limits = Limits {

@@ -4,6 +4,7 @@
 use std::io;
 
 mod accepted;
+mod damaged;
 mod faults;
 mod long;
 mod order;
@@ -13,5 +14,6 @@ fn main(rt: HostRuntime) -> io::Result<()> {
     faults::run(&rt)?;
     order::run(&rt)?;
     accepted::run(&rt)?;
-    long::run(&rt)
+    long::run(&rt)?;
+    damaged::run(&rt)
 }

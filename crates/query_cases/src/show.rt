@@ -40,6 +40,11 @@ impl fmt::Display for Read<'_> {
     }
 }
 
+// The answer alone, and no newline.
+pub(crate) fn answer<F: Field>(rt: &HostRuntime, line: &[u8], n: usize) -> io::Result<()> {
+    print!(rt; "{}", Read(&read_line::<F>(line, n)))
+}
+
 // A case by its name alone.
 pub(crate) fn named<F: Field>(
     rt: &HostRuntime,

@@ -156,7 +156,7 @@ const LOGS: [Case; 10] = [
 ];
 
 // Two stops at once: the earlier check counts.
-const BOTH: [Case; 4] = [
+const BOTH: [Case; 6] = [
     Case {
         name: "answers of 391, log of 140",
         text: TWO,
@@ -181,6 +181,18 @@ const BOTH: [Case; 4] = [
         answers: 1000,
         log: 140,
     },
+    Case {
+        name: "log of 1, no newline",
+        text: b"a 0 1",
+        answers: 1000,
+        log: 1,
+    },
+    Case {
+        name: "answers of 399, log of 144",
+        text: TWO,
+        answers: 399,
+        log: 144,
+    },
 ];
 
 // Each over a session of its own.
@@ -191,25 +203,37 @@ fn each(rt: &HostRuntime, cases: &[Case]) -> io::Result<()> {
     Ok(())
 }
 
-// A text of one remark, of so many bytes with its newline.
-fn long_text(rt: &HostRuntime, name: &str, length: usize, log: usize) -> io::Result<()> {
-    let mut text = vec![in rt.alloc(); b'#'; length]?;
-    text.pop();
-    text.push(b'\n')?;
-    let case = Case {
-        name,
-        text: text.as_slice(),
-        answers: 1000,
-        log,
-    };
-    replays::over::<Amounts>(rt, &WAGES, &[case])
+// The name, how many bytes, the last of them, and the bytes of both buffers.
+const LONG: [(&str, usize, u8, usize, usize); 7] = [
+    ("text of 65,536 bytes", 65536, b'\n', 1000, 500),
+    ("text of 65,536 bytes, no newline", 65536, b'#', 1000, 500),
+    ("text of 65,537 bytes", 65537, b'\n', 1000, 500),
+    ("text of 65,537 bytes, no newline", 65537, b'#', 1000, 500),
+    ("text of 65,537 bytes, answers of 0", 65537, b'\n', 0, 500),
+    ("text of 65,537 bytes, log of 1", 65537, b'\n', 1000, 1),
+    ("text of 65,537 bytes, log of 140", 65537, b'\n', 1000, 140),
+];
+
+// Texts of one remark.
+fn long_texts(rt: &HostRuntime) -> io::Result<()> {
+    for (name, length, last, answers, log) in LONG {
+        let mut text = vec![in rt.alloc(); b'#'; length]?;
+        text.pop();
+        text.push(last)?;
+        let case = Case {
+            name,
+            text: text.as_slice(),
+            answers,
+            log,
+        };
+        replays::over::<Amounts>(rt, &WAGES, &[case])?;
+    }
+    Ok(())
 }
 
 pub(crate) fn run(rt: &HostRuntime) -> io::Result<()> {
     each(rt, &TEXTS)?;
-    long_text(rt, "text of 65,536 bytes", 65536, 500)?;
-    long_text(rt, "text of 65,537 bytes", 65537, 500)?;
-    long_text(rt, "text of 65,537 bytes, log of 1", 65537, 1)?;
+    long_texts(rt)?;
     each(rt, &ANSWERS)?;
     each(rt, &LOGS)?;
     each(rt, &BOTH)

@@ -56,7 +56,27 @@ fn longest_line(rt: &HostRuntime) -> io::Result<()> {
     replays::over::<Amounts>(rt, &ONES, &[case])
 }
 
+// Lines of 640 and 641 bytes, and a remark of 641.
+fn long_lines(rt: &HostRuntime) -> io::Result<()> {
+    let mut text = String::new(rt.alloc());
+    for (first, length) in [("a", 640), ("a", 641), ("#", 641), ("t", 641), ("w", 640)] {
+        text.push_str(first)?;
+        for _ in 1..length {
+            text.push_str("1")?;
+        }
+        text.push_str("\n")?;
+    }
+    let case = Case {
+        name: "lines of 640 and 641 bytes",
+        text: text.as_bytes(),
+        answers: 1000,
+        log: 500,
+    };
+    replays::over::<Amounts>(rt, &ONES, &[case])
+}
+
 pub(crate) fn run(rt: &HostRuntime) -> io::Result<()> {
     longest_row(rt)?;
-    longest_line(rt)
+    longest_line(rt)?;
+    long_lines(rt)
 }

@@ -3,6 +3,7 @@ use Rattle.query.specs.declared.items.Limits.{Limits}
 use Rattle.query.specs.Lines.{limits, reading}
 use Rattle.query.proofs.Exactness.{exact}
 use Rattle.query.proofs.Parting.{parts}
+use Rattle.query.proofs.FirstFaults.{firsts}
 use Rattle.query.proofs.Places.{within}
 use Rattle.query.proofs.lines.read_line.Goals as goal
 
@@ -17,5 +18,6 @@ returns g c =
       is = e;
       exact = exact g.F.Field.model g.met.F.Field.laws c.args.n c.args.line.now _ e;
       parts = parts (limits g.F.Field.model c.args.n) c.args.line.now _ e;
+      firsts = firsts g.F.Field.model g.met.F.Field.laws c.args.n c.args.line.now _ e;
       within = within (limits g.F.Field.model c.args.n) c.args.line.now _ e;
     }

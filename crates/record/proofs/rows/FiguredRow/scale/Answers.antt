@@ -2,7 +2,7 @@ use Rattle.std.proofs.Common.{rules, ◌≡◌, ℕ, ◌+◌, ◌-◌, ◌<◌, 
 use borrow.Rule.Slice.PartMut.{put_mid}
 use Rattle.field.specs.Sums.{weights_of}
 use Rattle.field.specs.declared.Element.{Element}
-use Rattle.echelon.proofs.Codes.{zero-code}
+use Rattle.field.proofs.Zero.{zero-code}
 use Rattle.echelon.proofs.Values.{times_nothing}
 use Rattle.record.proofs.Weights.{part_below, part_at, part_was, from_parts}
 use Rattle.record.proofs.rows.FiguredRow.scale.Goals as goal
