@@ -8,9 +8,7 @@ use Rattle.field.specs.Sums.{Codes, weights_of}
 use Rattle.field.specs.declared.Element.{Element}
 use Rattle.server.specs.Checks.{Lowest}
 use Rattle.record.specs.Checks.{StrayWeight, NoneNamed}
-
-abbrev none : Element
-none = record { 0 = 0 }
+use Rattle.record.proofs.Weights.{zero_element}
 
 -- weights of which none is stray are elements
 pub none_stray :
@@ -28,10 +26,10 @@ module _ (M : FieldModel) (ws : List Element) where
   pub first_stray : (o : Option ℕ) (m : ℕ) → o ≡ Some m → FirstStray o → Lowest (StrayWeight M ws) m
   first_stray o m e first =
       let found = subst FirstStray e first in
-      record { holds = (found.0, found.1 none); none_below = λ k h stray. let small = found.2 k none (omega arith) h in omega (arith, stray.1, small) }
+      record { holds = (found.0, found.1 zero_element); none_below = λ k h stray. let small = found.2 k zero_element (omega arith) h in omega (arith, stray.1, small) }
 
   pub all_elements : (o : Option ℕ) → ((m : ℕ) → o ≡ Some m → ⊥) → FirstStray o → (n : ℕ) → length ws ≡ n → Codes M n (weights_of ws)
-  all_elements None not all n e = λ m h. all m none (omega arith) (omega (arith, e))
+  all_elements None not all n e = λ m h. all m zero_element (omega arith) (omega (arith, e))
   all_elements (Some i) not all n e = absurd (not i refl)
 
   abbrev pub AnyNamed : Bool → Type 0
@@ -39,7 +37,7 @@ module _ (M : FieldModel) (ws : List Element) where
       MatchBool b (AllWithin (λ (x : Element). x.0 ≡ 0) ws 0 (length ws)) ((k : ℕ) × (k < length ws) × HoldsAt (λ (x : Element). x.0 ≢ 0) ws k)
 
   pub all_zero : (b : Bool) → b ≡ true → AnyNamed b → NoneNamed ws
-  all_zero b e zero m h = subst AnyNamed e zero m none (omega arith) h
+  all_zero b e zero m h = subst AnyNamed e zero m zero_element (omega arith) h
 
   pub one_named : (b : Bool) → b ≡ false → AnyNamed b → NoneNamed ws → ⊥
-  one_named b e some zero = let found = subst AnyNamed e some in found.2 none (zero found.0 found.1)
+  one_named b e some zero = let found = subst AnyNamed e some in found.2 zero_element (zero found.0 found.1)

@@ -1,4 +1,4 @@
--- What holds of every record, whatever its field: the part of reduced echelon form that no field's model is needed for.
+-- What holds of every record and stands in its type: reduced echelon form, place by place, and that no row names its pivot alone.
 --   PivotsBelow, PivotsRise     each pivot is a member; pivots rise from row to row
 --   OwnPivot, LowestNamed       each row has 1 at its pivot, and 0 below it
 --   OtherPivots                 each row has 0 at the pivots of the others

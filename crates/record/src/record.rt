@@ -1,4 +1,4 @@
-// The record itself. What needs no field's model stands in its type.
+// The record itself. What holds of every record stands in its type.
 ghost use Rattle.std.specs.Prelude.{◌≤◌, vec_capacity};
 ghost use Rattle.record.specs.Shapes.{all_pivoted, PivotsBelow, PivotsRise, OwnPivot, LowestNamed, OtherPivots, NoneAlone, AllCoded};
 

@@ -28,9 +28,9 @@ use Rattle.record.specs.Records.{rec_of}
 use Rattle.record.proofs.Verdict.{row-codes}
 use Rattle.history.proofs.ByRecord.{pinned_with, lowest_pinned_by}
 use Rattle.history.specs.Events as events
-use Rattle.history.specs.Events.{Start, Event, Call, Reply, submits, answers, withdraws, witnesses, permits, gives, takes_back, fills, refuses, refused, issued, open_row, open_after, given}
+use Rattle.history.specs.Events.{Start, Event, Call, submits, answers, withdraws, witnesses, permits, gives, takes_back, fills, refuses, refused, issued, open_row, open_after, given}
 use Rattle.history.specs.Law as law
-use Rattle.history.specs.Law.{PinnedBy, Ready, Due, Lawful, goes_on}
+use Rattle.history.specs.Law.{PinnedBy, Ready, Due, goes_on}
 use Rattle.session.specs.Views.{SameOpen, Holds, Steps}
 use Rattle.session.specs.declared.session.OpenRow.{OpenRow}
 use Rattle.session.specs.declared.session.Session.{Session}
