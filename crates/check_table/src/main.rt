@@ -1,11 +1,13 @@
 // Says of the table file `table.dat` what it holds, or why it is refused.
 #![tactic(auto)]
 
-ghost use Rattle.std.specs.Prelude.{◌≡◌};
-ghost use Rattle.check_table.specs.Lines.{is_of_ticks};
+ghost use Rattle.std.specs.Prelude.{◌≡◌, ◌≢◌, IfErr, codes};
+ghost use Rattle.std.specs.IoError.{error_kind};
+ghost use Rattle.check_table.specs.Lines.{is_of_ticks, name_of};
 
 use amounts::Amounts;
 use field::Field;
+use std::io::ErrorKind;
 use std::{fs, io};
 use table_file::TableFile;
 use ticks::Ticks;
@@ -15,11 +17,22 @@ mod refused;
 
 use refused::Refused;
 
+// What a field is called in a report.
+fn field_name<F: Field>() -> &'static str
+    ensures { result.now ≡ name_of F.model.kind }
+{
+    if F::kind() == Ticks::kind() {
+        "ticks"
+    } else {
+        "amounts"
+    }
+}
+
 // One line for a refused file. Field, members and stored values for an accepted one.
-fn report<F: Field>(rt: &HostRuntime, field: &str, bytes: &[u8]) -> io::Result<()> {
+fn report<F: Field>(rt: &HostRuntime, bytes: &[u8]) -> io::Result<()> {
     match TableFile::<F>::open(bytes) {
         Ok(table) => {
-            println!(rt; "field {field}")?;
+            println!(rt; "field {}", field_name::<F>())?;
             listing::print(rt, &table)
         }
         Err(refusal) => println!(rt; "{}", Refused(refusal)),
@@ -35,16 +48,24 @@ fn is_of_ticks(bytes: &[u8]) -> bool
 
 fn check(rt: &HostRuntime, bytes: &[u8]) -> io::Result<()> {
     if is_of_ticks(bytes) {
-        report::<Ticks>(rt, "ticks", bytes)
+        report::<Ticks>(rt, bytes)
     } else {
-        report::<Amounts>(rt, "amounts", bytes)
+        report::<Amounts>(rt, bytes)
+    }
+}
+
+// A missing file counts as an empty one.
+fn read_table(rt: &HostRuntime) -> io::Result<Vec<u8>>
+    ensures { IfErr result (λ e. error_kind e ≢ ErrorKind.NotFound) }
+{
+    match fs::read(rt, "table.dat") {
+        Ok(bytes) => Ok(bytes),
+        Err(e) if e.kind() == ErrorKind::NotFound => Ok(Vec::new(rt.alloc())),
+        Err(e) => Err(e),
     }
 }
 
 fn main(rt: HostRuntime) -> io::Result<()> {
-    match fs::read(&rt, "table.dat") {
-        Ok(bytes) => check(&rt, &bytes),
-        Err(e) if e.kind() == io::ErrorKind::NotFound => check(&rt, &[]),
-        Err(e) => Err(e),
-    }
+    let bytes = read_table(&rt)?;
+    check(&rt, &bytes)
 }
