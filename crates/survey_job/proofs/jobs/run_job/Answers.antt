@@ -23,13 +23,14 @@ pub returns-in-Ok : goal.returns-in-Ok
 returns-in-Ok g c =
     let M = g.F.Field.model in
     let file = c.in-Ok.ensures in
+    let done : IfOk c.replay_new.result (λ j. Replays M (g.F.Field.model) c.args.text.now (vec_items j.printed) (vec_items j.log)) = search (c.replay_new.ensures) in
     record {
       printed =
           IfOk-weaker c.replay_new.result _ _
           (λ j done.
           replayed file.0 (vec_items j.printed) (vec_items j.log)
           (subst (λ (T : List ℕ). Replays M T c.args.text.now (vec_items j.printed) (vec_items j.log)) file.1 done))
-          c.replay_new.ensures;
+          done;
       exact = judging_is_exact_lem;
       possible = every_value_stays_possible_lem;
       unseen = values_are_not_seen_lem;

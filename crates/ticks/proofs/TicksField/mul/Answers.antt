@@ -22,5 +22,10 @@ pub returns-clause-is : goal.returns-clause-is
 returns-clause-is c =
     c.from-3.ensures ∙ c.power.ensures ∙ ap₂ (λ i j. raised 3 (i + j)) c.from.ensures c.from-2.ensures
     ∙ raised-add 3 c.logarithm.result c.logarithm-2.result (lit< tt)
-    ∙ ap₂ product (c.logarithm.ensures.undone c.if-x-eq0.false ∙ c.low-x.ensures)
-    (c.logarithm-2.ensures.undone c.if-y-eq0.false ∙ c.low-y.ensures)
+    ∙ ap₂ product (of_x ∙ c.low-x.ensures) (of_y ∙ c.low-y.ensures)
+  where
+    of_x : raised 3 c.logarithm.result ≡ c.low-x.result
+    of_x = search (c.logarithm.ensures.undone)
+
+    of_y : raised 3 c.logarithm-2.result ≡ c.low-y.result
+    of_y = search (c.logarithm-2.ensures.undone)
