@@ -129,9 +129,10 @@ module _ {S V : Type 0} {GS : server.Ghosts S V} {GV : field.Ghosts V} (M : Fiel
       (x : Session S V GS GV) (answers log : List ℕ) (done : Replay) (rest : List ℕ) → length text ≤ 65536 → 2 ≤ length log₀
       → (p : Progress M T x text answers₀ log₀ answers log done rest s h)
       → (e : Option Refusal) → Stops rest (length answers - done.answers) (length log - done.log) e
+      → (line : ℕ) → line ≡ done.lines + 1
       → Replayed M (length T) (value_at T) s h text answers₀ log₀
-      (record { lines = done.lines; answers = done.answers; log = done.log; stop = stopped (done.lines + 1) e }) p.after answers log
-  ended x answers log done rest short wide p e stops =
+      (record { lines = done.lines; answers = done.answers; log = done.log; stop = stopped line e }) p.after answers log
+  ended x answers log done rest short wide p e stops line next =
       let all = front_all answers₀ answers p.out done.answers p.printed_is p.out refl in
       let all-log = front_all log₀ log _ done.log p.logged_is (log_bytes M (length T) p.rows) refl in
       let same-answers = same_length answers₀ answers p.out done.answers p.printed_is in
@@ -148,10 +149,13 @@ module _ {S V : Type 0} {GS : server.Ghosts S V} {GV : field.Ghosts V} (M : Fiel
       let log-counted =
       subst (λ (b : ℕ). Replayed M (length T) (value_at T) s h text answers₀ log₀ (record { lines = done.lines; answers = done.answers; log = b; stop = stop }) p.after (onto p.out answers₀) (onto (log_bytes M (length T) p.rows) log₀))
       (sym all-log.count) counted in
+      let all_counted =
       subst (λ (us : List ℕ). Replayed M (length T) (value_at T) s h text answers₀ log₀ (record { lines = done.lines; answers = done.answers; log = done.log; stop = stop }) p.after answers us)
       (sym all-log.buffer)
       (subst (λ (us : List ℕ). Replayed M (length T) (value_at T) s h text answers₀ log₀ (record { lines = done.lines; answers = done.answers; log = done.log; stop = stop }) p.after us (onto (log_bytes M (length T) p.rows) log₀))
-      (sym all.buffer) log-counted)
+      (sym all.buffer) log-counted) in
+      subst (λ (k : ℕ). Replayed M (length T) (value_at T) s h text answers₀ log₀ (record { lines = done.lines; answers = done.answers; log = done.log; stop = stopped k e }) p.after answers log)
+      (sym next) all_counted
 
 -- a log that had its header before is left as one that gets it now
 module _ (M : FieldModel) (n : ℕ) (log log₁ : List ℕ) (is : log₁ ≡ onto (header_bytes M n) log) (wide : 2 ≤ length log) where

@@ -64,23 +64,17 @@ fn handle_lines<S: Server>(
         let number = done.lines + 1;
         match first_line(rest, answers.len() - done.answers, log.len() - done.log) {
             Ok((line, after)) => {
-                let used = handle_line(
-                    session,
-                    number,
-                    line,
-                    &mut answers[done.answers..],
-                    &mut log[done.log..],
-                );
+                let room = &mut answers[done.answers..];
+                let log_room = &mut log[done.log..];
+                let used = handle_line(session, number, line, room, log_room);
                 done.lines = number;
                 done.answers += used.answers;
                 done.log += used.log;
                 rest = after;
             }
             Err(refusal) => {
-                done.stop = Some(Stop {
-                    refusal,
-                    line: number,
-                });
+                let line = number;
+                done.stop = Some(Stop { refusal, line });
                 return done;
             }
         }

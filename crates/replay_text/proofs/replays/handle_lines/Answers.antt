@@ -13,7 +13,7 @@ loop-rest-init g c = (
   omega arith,
   refl,
   omega arith,
-  c.requires.header.within,
+  omega (arith, c.requires.header.within),
   λ s h H. record {
     before = [];
     cut = refl;
@@ -22,7 +22,7 @@ loop-rest-init g c = (
     rows = [];
     lines = none_yet;
     printed_is = record { buffer = refl; size = refl; within = omega arith };
-    logged_is = c.requires.header;
+    logged_is = search (c.requires.header);
     answered_is = refl;
     holds = H;
   },
@@ -71,7 +71,7 @@ returns-in-Err-clause-law g c =
     let p = c.loop-rest.invariant.5 s h H in (
       p.after,
       ended M T c.args.text.now c.args.answers.now c.args.log.now s h c.loop-rest.session c.loop-rest.answers c.loop-rest.log c.loop-rest.done c.loop-rest.rest.now
-          c.requires.text (omega (arith, wide, size)) p (Some c.in-Err.refusal) c.in-Err.ensures,
+          c.requires.text (omega (arith, wide, size)) p (Some c.in-Err.refusal) c.in-Err.ensures _ (omega arith),
       p.holds,
     )
 
@@ -87,6 +87,6 @@ returns-clause-law g c =
       p.after,
       subst (λ (stop : Option Stop). Replayed M (length T) (value_at T) s h c.args.text.now c.args.answers.now c.args.log.now (record { lines = c.loop-rest.done.lines; answers = c.loop-rest.done.answers; log = c.loop-rest.done.log; stop = stop }) p.after c.loop-rest.answers c.loop-rest.log) (sym inv.2)
           (ended M T c.args.text.now c.args.answers.now c.args.log.now s h c.loop-rest.session c.loop-rest.answers c.loop-rest.log c.loop-rest.done c.loop-rest.rest.now
-          c.requires.text (omega (arith, wide, size)) p None (at_the_end (let z : length c.loop-rest.rest.now ≡ 0 = search rules in z))),
+          c.requires.text (omega (arith, wide, size)) p None (at_the_end (let z : length c.loop-rest.rest.now ≡ 0 = search rules in z)) (c.loop-rest.done.lines + 1) refl),
       p.holds,
     )
