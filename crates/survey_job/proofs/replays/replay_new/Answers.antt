@@ -1,9 +1,9 @@
 -- Answers for `replay_new`: the new session stands for the empty history, and the replay goes on from there.
-use Rattle.std.proofs.Common.{[], ◌++◌, take, vec_items, sym, ap, ◌∙◌, subst, arith}
+use Rattle.std.proofs.Common.{[], ◌++◌, vec_items, sym, ap, ◌∙◌, subst, arith}
 use Rattle.history.specs.Events.{new_session}
 use Rattle.session.specs.Views.{Holds}
 use Rattle.survey_job.specs.Jobs.{stop_text, Replays}
-use Rattle.survey_job.proofs.Buffers.{lent_back}
+use Rattle.survey_job.proofs.Buffers.{cut_back}
 use Rattle.survey_job.proofs.Assembled.{assembled}
 use Rattle.survey_job.proofs.replays.replay_new.Goals as goal
 
@@ -21,5 +21,5 @@ returns g c =
     (assembled M (g.S.Server.table x.server) c.args.text.now _ _ c.replay-done.new.answers c.replay-done.new.log _ _ r law.0
     (answers.value ∙ c.in_ok-printed.ensures) (log.value ∙ c.in_ok-log.ensures) law.1 law.2.lawful
     (c.in_ok-add_stop.ensures
-    ∙ ap (λ us. us ++ stop_text r.stop) (c.truncate.ensures.items ∙ ap (take r.answers) (lent_back _ _ c.replay-done.new.answers (omega arith))))
-    (c.truncate-2.ensures.items ∙ ap (take r.log) (lent_back _ _ c.replay-done.new.log (omega arith))))
+    ∙ ap (λ us. us ++ stop_text r.stop) (cut_back _ _ c.replay-done.new.answers _ r.answers _ c.truncate.ensures.items (omega arith) (omega arith)))
+    (cut_back _ _ c.replay-done.new.log _ r.log _ c.truncate-2.ensures.items (omega arith) (omega arith)))
