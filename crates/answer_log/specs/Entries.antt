@@ -2,11 +2,12 @@
 --   mark_of, map_of          the mark byte; the bytes from the map on
 --   weighted bs              mark bit 0 stands: the weights are stored
 --   weight_place M n bs m    where the weight of member m stands, or would stand
---   figure_place, row_length_lem where the figure stands; how many bytes the row has
+--   figure_place, row_length_lem   where the figure stands; how many bytes the row has
 --   row_weight M n bs m      the weight of member m: 0 if it is not named, and 1 if no weights are stored
 --   row_figure M n bs        the code of the figure
 --   Mapped, Named, Framed    what the checks up to the map's length, its bits and the row's length found in order
 --   Faulty M n bs m          member m is named, and its weight is no element, or 0
+--   Weighed M n bs           what the checks up to the weights found in order
 --   EntryCheck M n k bs r    r is the answer for row number k, a refusal or none, in the order of the checks
 --   Reads M n k bs w f size  the row is accepted, with the weights w, 0 from the count on, the figure f and so many bytes
 --   RowAt M n k bytes at w f next   the same, for the row at a place of the log's bytes; the next row begins at `next`

@@ -1,8 +1,10 @@
 -- The bytes of a log, as they are written: two of a header, then the rows.
+--   header_bytes M n      the header: kind and count
 --   names w m             the row with the weights w names member m
 --   map_byte_lem, map_bytes   a byte of the member map; the whole map of n members
 --   plain w n             every weight of the n members is 0 or 1
 --   weight_bytes M w n    the weights of the named members below n, in rising order
+--   stored_bytes M w n    those weights where they are stored, none for a plain row
 --   row_bytes M n w f     a row: mark, map, weights unless the row is plain, figure
 -- The weights of a row are 0 from the count on. Assumes nothing.
 use Rattle.std.specs.Prelude.{ℕ, zero, suc, ◌+◌, ◌*◌, ◌^◌, Bool, true, cond, not, ◌&&◌, List, [], ◌∷◌, ◌++◌, map, ◌==◌, nat_le}

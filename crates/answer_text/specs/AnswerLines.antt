@@ -1,4 +1,5 @@
 -- The lines that a replay prints: bytes, with numbers in decimal.
+--   after_space v      a number after a space
 --   spaced vs          each number after a space
 --   reply_text r       what a line prints of the reply that its last call got
 --   answer_line k r    the line that query line k prints, with its newline
@@ -6,7 +7,7 @@
 --   stop_line_lem n k      the line of a stop: its number, and the line before which it came
 --   reply_of_answer    an answer in memory, as the reply that it stands for
 --   Short r            its numbers have five digits at most, and a table has 64 of them at most
---   LinesFit room     a line of at most five digits with a short reply takes no more than this room
+--   LinesFit room      a line of at most five digits with a short reply takes no more than this room
 -- Assumes nothing.
 use Rattle.std.specs.Prelude.{ℕ, ◌<◌, ◌≤◌, List, [], ◌∷◌, ◌++◌, length, decimal, slice_index}
 use Rattle.std.specs.List.{flat_map}

@@ -2,6 +2,7 @@
 --   cleared M e g         g less that multiple of e which takes its weight at e's pivot to 0
 --   leftover M rec g      g cleared by every record row
 --   scaled M c g          c times g
+--   with_pivot p g        a row as a record row with the pivot p
 --   pivot_cleared M e d   a record row cleared by e; its pivot stays
 --   joined M e k rec      e put in before row k of the record, once its pivot is cleared from every row
 -- Assumes nothing.

@@ -1,5 +1,6 @@
 -- The reduced echelon form of rows with figures.
 --   Pivoted                  a record row: its pivot, its weights, its figure
+--   figured, all_figured     a record row, and all of them, as rows with figures
 --   Reduced M n rec          the record rows are in reduced echelon form, over elements
 --   Alone n row i            the row names member i, and no other
 --   FitsGiven M n given t    t has each figure given, but for rows that the ones before fix: those add no figure

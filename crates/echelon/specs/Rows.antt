@@ -1,5 +1,6 @@
 -- Rows with figures, and what they tell of tables, over every field and every count n of members.
 --   Figured             a row with the figure given for it
+--   rows_of given       the rows alone, without their figures
 --   RowsCodes M n rows  each row's weights are elements
 --   Agree M n rows t u  two tables have the same sum over each of the rows
 --   Fits M n given t    a table has each figure as its sum

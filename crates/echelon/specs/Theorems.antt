@@ -1,4 +1,11 @@
 -- What holds of records, rows and tables, over every field and every count.
+--   PinnedAlone                 a member is pinned exactly where a record row names it alone
+--   BaseFits, DirectionFree     the two tables that every witness is made of
+--   WitnessFits                 a witness has the element at the member, and fits the record
+--   AtMostOne, SameFits         records are equal exactly where the same tables fit them
+--   FixedLeavesNothing, LeftoverFits   what elimination leaves of a row
+--   JoinedForm                  a row that joins leaves the record reduced, and adds its own sum and no other
+--   FormAgrees, FormKept, FormGrown, OneForm   the reduced form of given rows: what it tells, how it grows, that it is one
 -- Assumes nothing.
 use Rattle.std.specs.Prelude.{◌≡◌, ◌≢◌, List, ◌∷◌, ℕ, ◌≤◌, ◌<◌, length}
 use Rattle.field.specs.Model.{FieldModel, FieldLaws}

@@ -1,4 +1,7 @@
 -- The bytes of an element: one where the field's size is at most 256, else two, the high byte first.
+--   width M           how many bytes an element takes
+--   written M e       the bytes that stand for a code
+--   code_at M bs i    the code that stands in some bytes from place i on
 -- Assumes nothing.
 use Rattle.std.specs.Prelude.{ℕ, ◌+◌, ◌*◌, ◌/◌, ◌%◌, Bool, true, false, List, [], ◌∷◌, nat_le, slice_index}
 use Rattle.field.specs.Model.{FieldModel}

@@ -1,6 +1,9 @@
 -- What a session is asked and answers, and what a history of that tells.
 --   Call, Reply, Event     a call, what it is answered, and both
+--   refused e              the reply that tells a refusal
+--   OpenRow                a row that was submitted, and its permit
 --   Start                  what a session begins with: rows given before it, and permits issued before it; none for a new one
+--   new_session            the start of a new session
 --   issued s h             how many permits were issued, counting those before
 --   open_row h             the open permit's number and row
 --   answered h             the rows that were answered, each with its figure

@@ -1,4 +1,7 @@
 -- The items of a line.
+--   code, no_weights                     an element by its code; the row that names nobody
+--   names row m                          the row names member m
+--   then                                 what to do with a value, where there is no fault
 --   read_spaced_lem limit line p         the number below `limit` that stands after the space at a place
 --   read_item_lem lim row line p         the item at a place, of a member that the row does not name
 --   read_items_lem lim row line p        the row with the weights of all items from a place on to the line's end

@@ -1,6 +1,7 @@
 -- The numbers of a line, each read at a place of it.
 --   byte_at line p                     the byte at a place, none from the line's end on
 --   stands_at line p b                 whether the byte b stands at a place
+--   read_digit_lem line p              the digit at a place, or its fault
 --   digits bs                          the longest front of bs that is digits
 --   worth 0 ds                         what the digits are worth
 --   read_number least limit line p     the number at a place, from `least` up and below `limit`, or its first fault

@@ -1,4 +1,5 @@
 -- The refusal that each fault counts as: 18 for a byte out of place, 19 for a number, 20 for a member, 21 for a length.
+--   digit_refusal, number_refusal, item_refusal, line_refusal   the refusal of each layer's fault
 -- Assumes nothing.
 use Rattle.refusal.specs.declared.Refusal.{Refusal}
 use Rattle.refusal.specs.declared.Refusal.TheVariants.{UnexpectedByte, BadNumber, MemberRepeated, LineTooLong}

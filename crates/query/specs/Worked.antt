@@ -1,4 +1,6 @@
--- Faults worked by hand, for three members over a field of 65521 elements, each line with its refusal. Assumes nothing.
+-- Faults worked by hand, for three members over a field of 65521 elements, each line with its refusal.
+--   WorkedFaults size   each of the listed lines has its refusal, over a field of that size
+-- Assumes nothing.
 use Rattle.std.specs.Prelude.{◌≡◌, ℕ, List, [], ◌∷◌, Err, codes}
 use Rattle.std.specs.List.{AllByRecursion}
 use Rattle.refusal.specs.declared.Refusal.{Refusal}

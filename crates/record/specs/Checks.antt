@@ -1,4 +1,5 @@
 -- What the check of a row answers, in the order of the checks: a refusal, or none.
+--   NoneNamed ws           every weight is 0
 --   RowCheck M n ws r      r is the answer for the weights ws, where n are asked for
 --   WitnessCheck M n i a k r   the same for the member i, element a and buffer of length k of a witness
 -- Assumes nothing.

@@ -1,7 +1,11 @@
 -- What the record is asked, and what it answers, in terms of tables.
+--   given_row ws f           the row of these weights with the figure f
+--   PinnedWith M n rec r i   member i is pinned by the record's rows with r
 --   FixedFigure M n rec r f  every table that fits the record has the sum f over r
 --   Judged M n rec r j       j is the judgement of the row r: fixed, pins a member, or free to join
 --   Admitted M n rec ws f rec' r   r is what admitting the row ws with the figure f answers, and rec' the record after it
+--   AloneWith M n rec e i    member i stands alone in a record row cleared by e, or in e
+--   SamePivoted n d e        two record rows are equal at the n members
 -- Assumes nothing.
 use Rattle.std.specs.Prelude.{◌≡◌, ℕ, ◌<◌, ◌≤◌, ◌⊎◌, List, ◌∷◌, length, Some, None, Ok, Err, Result}
 use Rattle.refusal.specs.declared.Refusal.{Refusal}

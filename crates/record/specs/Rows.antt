@@ -1,5 +1,6 @@
 -- Rows in memory, as rows of the theory.
 --   figured_row, pivoted     a row with its figure; a record row
+--   figured_record_row       a record row as a row with its figure
 --   SameRow n g h            two rows with figures are equal at the n members
 --   CodedRow M n g           weights and figure are elements
 -- Assumes nothing.

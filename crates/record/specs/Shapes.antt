@@ -1,4 +1,5 @@
 -- What holds of every record and stands in its type: reduced echelon form, place by place, and that no row names its pivot alone.
+--   all_pivoted                 record rows in memory, as those of the theory
 --   PivotsBelow, PivotsRise     each pivot is a member; pivots rise from row to row
 --   OwnPivot, LowestNamed       each row has 1 at its pivot, and 0 below it
 --   OtherPivots                 each row has 0 at the pivots of the others

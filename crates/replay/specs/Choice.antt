@@ -1,4 +1,5 @@
 -- The field that the kind byte of a table file chooses: 2 is ticks, and any other kind, or none, is amounts.
+--   chosen_field table   that field's model
 -- Assumes nothing.
 use Rattle.std.specs.Prelude.{ℕ, true, false, List, ◌==◌, slice_index}
 use Rattle.field.specs.Model.{FieldModel}

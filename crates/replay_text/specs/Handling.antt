@@ -1,4 +1,5 @@
 -- One line of a replay, on a session in memory.
+--   Loggable M n room came   the row that was answered, if any, can be logged in so much room
 --   LineDone M T x k line answers log x' answers' log' used   the line is handled by the law, printed and logged
 -- Assumes nothing.
 use Rattle.std.specs.Prelude.{ℕ, List, length, None, Ok, Err, Option, Result}

@@ -6,6 +6,7 @@
 --   Stops rest room log_room e   why no line of the rest is handled, where so many bytes are left: a stop, or none at the text's end
 --   stop_number_lem, stop_line_lem   a stop as two numbers, both 0 where there is none
 --   Replayed M n t s h text answers log r h' answers' log'   what the replay of a text answers and leaves
+--   nothing_done e           the answer of a replay that did not begin
 -- Rows and histories have the newest first. Assumes nothing.
 use Rattle.std.specs.Prelude.{◌≡◌, ℕ, ◌+◌, ◌-◌, ◌<◌, ◌≤◌, ◌≢◌, List, [], ◌∷◌, ◌++◌, length, Some, None, Option}
 use Rattle.std.specs.List.{AllByRecursion}

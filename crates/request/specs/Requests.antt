@@ -1,7 +1,9 @@
 -- What a line of query text asks of a session, and what it is answered.
+--   fault_refusal                the refusal that a fault counts as
 --   row n w                      the row of n weights that a line names
 --   Asked, Tried M n t s h ws r h'   the row ws, submitted and answered, or submitted and withdrawn, has the last reply r
 --   Served M n t s h q r h'      the same for a request
+--   figured_with n w v           the row w, with the figure v, as a list of one
 --   answered_row n q r           the row that was answered, with its figure
 --   Handled M n t s h line r rows h'   the same for a line: no answer to a remark; `rows` are the rows answered
 -- After the history h the calls that are made lead to the history h'.

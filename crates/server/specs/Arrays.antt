@@ -1,4 +1,6 @@
--- What an array means: the elements of its slice. Assumes nothing.
+-- What an array means: the elements of its slice.
+--   array_table M a   the table of those elements
+-- Assumes nothing.
 use Rattle.std.specs.Prelude.{ℕ, List, length}
 use Rattle.field.specs.Model.{FieldModel}
 use Rattle.server.specs.Tables.{listed, value_at, codes}

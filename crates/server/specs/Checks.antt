@@ -1,4 +1,5 @@
 -- What a server's maker answers, in the order of the checks: a refusal, or none.
+--   Count n              a server can have n members: 1 to 64
 --   Lowest P m           m is the lowest number with the property
 --   ArrayCheck M xs r    r is the answer for an array over the codes xs
 --   PairCheck k l r      r is the answer for two servers of these counts

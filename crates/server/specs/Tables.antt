@@ -1,7 +1,10 @@
 -- The tables that servers mean.
+--   element_or_zero_lem M e, bounded k   what is no element counts as 0; k cut to 1 to 64
 --   Table M t           a list of 1 to 64 elements
 --   value_at t          the element of each member, 0 from the count on
 --   listed M k f        the table of k values f, cut to 1 to 64 members, where a code that is no element counts as 0
+--   codes es            the codes of some elements
+--   sums M t u          two tables added member by member, as far as both go
 -- Assumes nothing.
 use Rattle.std.specs.Prelude.{ℕ, ◌<◌, ◌≤◌, min, max, true, false, List, map, length, nat_lt, slice_index}
 use Rattle.std.specs.List.{range_with_len}

@@ -1,4 +1,6 @@
--- What a view of a table file means. Assumes nothing.
+-- What a view of a table file means.
+--   view_table M f   the table that the file f means
+-- Assumes nothing.
 use Rattle.std.specs.Prelude.{ℕ, List}
 use Rattle.field.specs.Model.{FieldModel}
 use Rattle.server.specs.Tables.{listed}
