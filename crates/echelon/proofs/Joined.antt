@@ -8,14 +8,14 @@ use native.Mathlib.Decide.{ℕ_discrete, dec_lt}
 use native.Mathlib.Omega.{arith}
 use lib.ListN.{length, take, drop, length-map}
 use Rattle.field.specs.Model.{FieldModel, FieldLaws}
-use Rattle.echelon.specs.Rows.{Vector, Codes, Figured, rows_of, Agree, Fits}
+use Rattle.echelon.specs.Rows.{Vector, Codes, Figured, rows_of, Agree, Fits, CodedRow}
 use Rattle.echelon.specs.Reduced.{Pivoted, figured, all_figured, at, Reduced}
 use Rattle.echelon.specs.Elimination.{leftover, scaled, with_pivot, pivot_cleared, joined}
 use Rattle.echelon.specs.Theorems.{JoinedForm}
 use Rattle.echelon.proofs.Field.{times_zero, zero_right, factor_away}
 use Rattle.echelon.proofs.Codes.{field_of, elt, elt_inverse, elt_nonzero}
 use Rattle.echelon.proofs.Indexed.{fits-at, at-fits, agree_at, at_agree}
-use Rattle.echelon.proofs.Values.{FigCodes, AllCodes, all_codes, value, Kills, cleared-codes, cleared_value, scaled-codes, scaled_value, times_nothing, less_none, less_self, leftover_value, fit_value, between, agree_value}
+use Rattle.echelon.proofs.Values.{AllCodes, all_codes, value, Kills, cleared-codes, cleared_value, scaled-codes, scaled_value, times_nothing, less_none, less_self, leftover_value, fit_value, between, agree_value}
 use Rattle.echelon.proofs.Leftover.{left-codes, left-pivot}
 
 -- x put in before place k of the rows that f makes
@@ -74,7 +74,7 @@ module _ (f : Pivoted → Pivoted) (x : Pivoted) where
         | no p ↦ (suc a, omega (arith, put-length k rec h), put_high k rec h a (omega arith) l)
       ]
 
-module _ (M : FieldModel) (L : FieldLaws M) (n : ℕ) (rec : List Pivoted) (R : Reduced M n rec) (g : Figured) (cg : FigCodes M n g) (p k : ℕ) (below : p < n) (named : (leftover M rec g).row p ≢ 0) (lowest : (m : ℕ) → m < p → (leftover M rec g).row m ≡ 0) (within : k ≤ length rec) (before : (a : ℕ) → a < k → (at rec a).pivot < p) (after : (a : ℕ) → k ≤ a → a < length rec → p < (at rec a).pivot) where
+module _ (M : FieldModel) (L : FieldLaws M) (n : ℕ) (rec : List Pivoted) (R : Reduced M n rec) (g : Figured) (cg : CodedRow M n g) (p k : ℕ) (below : p < n) (named : (leftover M rec g).row p ≢ 0) (lowest : (m : ℕ) → m < p → (leftover M rec g).row m ≡ 0) (within : k ≤ length rec) (before : (a : ℕ) → a < k → (at rec a).pivot < p) (after : (a : ℕ) → k ≤ a → a < length rec → p < (at rec a).pivot) where
   open field_of M L use {Elt, zer, one, ◌⊕◌, ◌⊗◌, neg, times_inv}
 
   infixl 60 ◌⊕◌
@@ -82,7 +82,7 @@ module _ (M : FieldModel) (L : FieldLaws M) (n : ℕ) (rec : List Pivoted) (R : 
   abbrev left : Figured
   left = leftover M rec g
 
-  left_c : FigCodes M n left
+  left_c : CodedRow M n left
   left_c = left-codes M L n rec R g cg
 
   abbrev factor : ℕ
@@ -95,7 +95,7 @@ module _ (M : FieldModel) (L : FieldLaws M) (n : ℕ) (rec : List Pivoted) (R : 
   abbrev fresh : Pivoted
   fresh = with_pivot p (scaled M factor left)
 
-  pub fresh-codes : FigCodes M n (figured fresh)
+  pub fresh-codes : CodedRow M n (figured fresh)
   fresh-codes = scaled-codes M L n factor left factor-code left_c
 
   pub fresh-own : fresh.weights p ≡ 1
@@ -111,7 +111,7 @@ module _ (M : FieldModel) (L : FieldLaws M) (n : ℕ) (rec : List Pivoted) (R : 
   abbrev row_of : ℕ → Pivoted
   row_of a = pivot_cleared M fresh (at rec a)
 
-  row-codes : (a : ℕ) → a < length rec → FigCodes M n (figured (row_of a))
+  row-codes : (a : ℕ) → a < length rec → CodedRow M n (figured (row_of a))
   row-codes a b = cleared-codes M L n fresh (figured (at rec a)) fresh-codes below (R.weights_codes a b, R.figure_code a b)
 
   -- where the record row or the new row is 0, the cleared row is as it was

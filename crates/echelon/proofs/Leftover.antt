@@ -8,7 +8,7 @@ use native.Mathlib.Omega.{arith}
 use lib.ListN.{length, take}
 use Rattle.field.specs.Model.{FieldModel, FieldLaws}
 use Rattle.field.proofs.Zero.{zero-code}
-use Rattle.echelon.specs.Rows.{Vector, Codes, minus, sum, Figured, rows_of, Agree, Fixes}
+use Rattle.echelon.specs.Rows.{Vector, Codes, minus, sum, Figured, rows_of, Agree, Fixes, CodedRow}
 use Rattle.echelon.specs.Reduced.{Pivoted, figured, all_figured, at, Reduced}
 use Rattle.echelon.specs.Elimination.{cleared, leftover}
 use Rattle.echelon.specs.Witness.{Free, direction}
@@ -17,7 +17,7 @@ use Rattle.echelon.proofs.Field.{one_right}
 use Rattle.echelon.proofs.Codes.{field_of, elt, elt_path, elt_zero, elt_one, minus-below, sum_below, sum_one, sum_none}
 use Rattle.echelon.proofs.Indexed.{fits-at, agree_at, pivot_or_free, direction_self, direction_other}
 use Rattle.echelon.proofs.Tables.{direction-codes, direction_agrees, zeros-codes, zeros-sum}
-use Rattle.echelon.proofs.Values.{FigCodes, AllCodes, all_codes, Kills, cleared-codes, less_self, leftover-codes, leftover_value, tip, tip_value, table_value, fit_value, between, agree_value}
+use Rattle.echelon.proofs.Values.{AllCodes, all_codes, Kills, cleared-codes, less_self, leftover-codes, leftover_value, tip, tip_value, table_value, fit_value, between, agree_value}
 
 -- one record row more
 pub leftover-next :
@@ -35,7 +35,7 @@ module _ (M : FieldModel) (L : FieldLaws M) (n : ℕ) where
       (rec : List Pivoted) → AllCodes M n rec
       → ((a : ℕ) → a < length rec → (at rec a).weights (at rec a).pivot ≡ 1)
       → ((a b : ℕ) → a < length rec → b < length rec → a ≢ b → (at rec a).weights (at rec b).pivot ≡ 0)
-      → (g : Figured) → FigCodes M n g → (a : ℕ) → a < length rec → (leftover M rec g).row (at rec a).pivot ≡ 0
+      → (g : Figured) → CodedRow M n g → (a : ℕ) → a < length rec → (leftover M rec g).row (at rec a).pivot ≡ 0
   leftover-pivot [] cr own others g cg a b = absurd (omega arith)
   leftover-pivot (e ∷ rec) cr own others g cg zero b =
       let p = e.pivot in
@@ -55,8 +55,8 @@ module _ (M : FieldModel) (L : FieldLaws M) (n : ℕ) where
       (λ x y k l q. others (suc x) (suc y) (omega arith) (omega arith) (omega arith)) (cleared M e g) (cleared-codes M L n e g ce below cg) a
       (omega arith)
 
-  module _ (rec : List Pivoted) (R : Reduced M n rec) (g : Figured) (cg : FigCodes M n g) where
-    pub left-codes : FigCodes M n (leftover M rec g)
+  module _ (rec : List Pivoted) (R : Reduced M n rec) (g : Figured) (cg : CodedRow M n g) where
+    pub left-codes : CodedRow M n (leftover M rec g)
     left-codes = leftover-codes M L n rec (all_codes M n rec R) g cg
 
     pub left-pivot : (a : ℕ) → a < length rec → (leftover M rec g).row (at rec a).pivot ≡ 0

@@ -10,19 +10,16 @@ use lib.Dec.{eqb, eqb→eq, eqb_refl}
 use lib.ListN.{length}
 use Rattle.field.specs.Model.{FieldModel, FieldLaws}
 use Rattle.field.proofs.Zero.{zero-code}
-use Rattle.echelon.specs.Rows.{Vector, Codes, minus, sum, Figured}
+use Rattle.echelon.specs.Rows.{Vector, Codes, minus, sum, Figured, CodedRow}
 use Rattle.echelon.specs.Reduced.{Pivoted, figured, at, Reduced}
 use Rattle.echelon.specs.Elimination.{cleared, leftover, scaled}
 use Rattle.echelon.proofs.Field.{total, total_cong, total_linear, total_zero, one_term, plus_linear, row_linear, table_linear, zero_right, times_zero, zero-times, one_right, times_neg_one, neg_times, neg_zero, difference_zero}
 use Rattle.echelon.proofs.Codes.{field_of, elt, elt_path, elt_zero, elt_one, elt_plus, elt_times, elt_opposite, elt_minus, sum_below, elt_sum, minus-below}
 use Rattle.echelon.proofs.Indexed.{by_test}
 
--- the row and its figure are elements
-abbrev pub FigCodes : FieldModel → ℕ → Figured → Type 0
-FigCodes M n g = Codes M n g.row × (g.figure < M.size)
-
+-- rows of elements, with their pivots below n
 abbrev pub AllCodes : FieldModel → ℕ → List Pivoted → Type 0
-AllCodes M n rec = (a : ℕ) → a < length rec → FigCodes M n (figured (at rec a)) × ((at rec a).pivot < n)
+AllCodes M n rec = (a : ℕ) → a < length rec → CodedRow M n (figured (at rec a)) × ((at rec a).pivot < n)
 
 pub all_codes : (M : FieldModel) (n : ℕ) (rec : List Pivoted) → Reduced M n rec → AllCodes M n rec
 all_codes M n rec R a b = ((R.weights_codes a b, R.figure_code a b), R.pivot_below a b)
@@ -101,7 +98,7 @@ module _ (M : FieldModel) (L : FieldLaws M) (n : ℕ) where
       ∙ ap (λ x. elt M L a ⊕ x) (one_right (field_of M L) (neg (elt M L a)))
       ∙ plus_neg (elt M L a) ∙ sym (elt_zero M L))
 
-  pub cleared-codes : (e : Pivoted) (g : Figured) → FigCodes M n (figured e) → e.pivot < n → FigCodes M n g → FigCodes M n (cleared M e g)
+  pub cleared-codes : (e : Pivoted) (g : Figured) → CodedRow M n (figured e) → e.pivot < n → CodedRow M n g → CodedRow M n (cleared M e g)
   cleared-codes e g ce below cg =
       let hp = cg.0 e.pivot below in (
         λ m b. less_below (g.row m) (g.row e.pivot) (e.weights m) (cg.0 m b) hp (ce.0 m b),
@@ -109,7 +106,7 @@ module _ (M : FieldModel) (L : FieldLaws M) (n : ℕ) where
       )
 
   pub cleared_value :
-      (t : ℕ → Elt) (y : Elt) (e : Pivoted) (g : Figured) → FigCodes M n (figured e) → e.pivot < n → FigCodes M n g
+      (t : ℕ → Elt) (y : Elt) (e : Pivoted) (g : Figured) → CodedRow M n (figured e) → e.pivot < n → CodedRow M n g
       → value t y (cleared M e g) ≡ value t y g ⊕ (neg (elt M L (g.row e.pivot)) ⊗ value t y (figured e))
   cleared_value t y e g ce below cg =
       let hp = cg.0 e.pivot below in
@@ -117,14 +114,14 @@ module _ (M : FieldModel) (L : FieldLaws M) (n : ℕ) where
       (λ m b. elt_less (g.row m) (g.row e.pivot) (e.weights m) (cg.0 m b) hp (ce.0 m b))
       (elt_less g.figure (g.row e.pivot) e.figure cg.1 hp ce.1)
 
-  pub scaled-codes : (c : ℕ) (g : Figured) → c < M.size → FigCodes M n g → FigCodes M n (scaled M c g)
+  pub scaled-codes : (c : ℕ) (g : Figured) → c < M.size → CodedRow M n g → CodedRow M n (scaled M c g)
   scaled-codes c g hc cg =
       (λ m b. L.times_below c (g.row m) hc (cg.0 m b), L.times_below c g.figure hc cg.1)
 
   abbrev no_figured : Figured
   no_figured = record { row = λ m. 0; figure = 0 }
 
-  pub scaled_value : (t : ℕ → Elt) (y : Elt) (c : ℕ) (g : Figured) → c < M.size → FigCodes M n g → value t y (scaled M c g) ≡ elt M L c ⊗ value t y g
+  pub scaled_value : (t : ℕ → Elt) (y : Elt) (c : ℕ) (g : Figured) → c < M.size → CodedRow M n g → value t y (scaled M c g) ≡ elt M L c ⊗ value t y g
   unfolding value
   scaled_value t y c g hc cg =
       let F = field_of M L in
@@ -142,14 +139,14 @@ module _ (M : FieldModel) (L : FieldLaws M) (n : ℕ) where
   abbrev pub Kills : (ℕ → Elt) → Elt → List Pivoted → Type 0
   Kills t y rec = (a : ℕ) → a < length rec → value t y (figured (at rec a)) ≡ zer
 
-  pub leftover-codes : (rec : List Pivoted) → AllCodes M n rec → (g : Figured) → FigCodes M n g → FigCodes M n (leftover M rec g)
+  pub leftover-codes : (rec : List Pivoted) → AllCodes M n rec → (g : Figured) → CodedRow M n g → CodedRow M n (leftover M rec g)
   leftover-codes [] cr g cg = cg
   leftover-codes (e ∷ rec) cr g cg =
       let (ce, below) = cr 0 (omega arith) in
       leftover-codes rec (λ a b. cr (suc a) (omega arith)) (cleared M e g) (cleared-codes e g ce below cg)
 
   pub leftover_value :
-      (t : ℕ → Elt) (y : Elt) (rec : List Pivoted) → AllCodes M n rec → Kills t y rec → (g : Figured) → FigCodes M n g
+      (t : ℕ → Elt) (y : Elt) (rec : List Pivoted) → AllCodes M n rec → Kills t y rec → (g : Figured) → CodedRow M n g
       → value t y (leftover M rec g) ≡ value t y g
   leftover_value t y [] cr kills g cg = refl
   leftover_value t y (e ∷ rec) cr kills g cg =
@@ -179,7 +176,7 @@ module _ (M : FieldModel) (L : FieldLaws M) (n : ℕ) where
 
   -- over a table of codes, with the figure taken away: 0 where the sum is the figure
   pub table_value :
-      (t : Vector) → Codes M n t → (g : Figured) → FigCodes M n g
+      (t : Vector) → Codes M n t → (g : Figured) → CodedRow M n g
       → value (λ m. elt M L (t m)) (neg one) g ≡ elt M L (minus M (sum M n g.row t) g.figure)
   unfolding value
   table_value t ct g cg =
@@ -187,7 +184,7 @@ module _ (M : FieldModel) (L : FieldLaws M) (n : ℕ) where
       ∙ sym (elt_minus M L (sum M n g.row t) g.figure (sum_below M L n g.row t cg.0 ct) cg.1)
 
   pub fit_value :
-      (t : Vector) → Codes M n t → (g : Figured) → FigCodes M n g
+      (t : Vector) → Codes M n t → (g : Figured) → CodedRow M n g
       → (sum M n g.row t ≡ g.figure) ↔ (value (λ m. elt M L (t m)) (neg one) g ≡ zer)
   fit_value t ct g cg =
       let s = sum M n g.row t in

@@ -2,12 +2,13 @@
 --   Figured             a row with the figure given for it
 --   rows_of given       the rows alone, without their figures
 --   RowsCodes M n rows  each row's weights are elements
+--   CodedRow M n g      weights and figure of a row are elements
 --   Agree M n rows t u  two tables have the same sum over each of the rows
 --   Fits M n given t    a table has each figure as its sum
 --   Pins M n rows i     any two tables that agree on the rows are equal at member i
 --   Fixes M n rows r    any two tables that agree on the rows have one sum over r
 -- Assumes nothing.
-use Rattle.std.specs.Prelude.{◌≡◌, List, [], ◌∷◌, map, ℕ}
+use Rattle.std.specs.Prelude.{◌≡◌, List, [], ◌∷◌, map, ℕ, ◌<◌}
 use Rattle.field.specs.Model.{FieldModel}
 pub use Rattle.field.specs.Sums.{Vector, Codes, minus}
 unfoldable pub use Rattle.field.specs.Sums.{sum}
@@ -22,6 +23,9 @@ rows_of given = map (λ g. g.row) given
 abbrev pub RowsCodes : FieldModel → ℕ → List Vector → Type 0
 RowsCodes M n [] = Unit {0}
 RowsCodes M n (r ∷ rows) = Codes M n r × RowsCodes M n rows
+
+abbrev pub CodedRow : FieldModel → ℕ → Figured → Type 0
+CodedRow M n g = Codes M n g.row × (g.figure < M.size)
 
 abbrev pub Agree : FieldModel → ℕ → List Vector → Vector → Vector → Type 0
 Agree M n [] t u = Unit {0}

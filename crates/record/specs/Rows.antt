@@ -8,6 +8,7 @@ use Rattle.std.specs.Prelude.{◌≡◌, ℕ, ◌<◌}
 use Rattle.field.specs.Model.{FieldModel}
 use Rattle.field.specs.Sums.{Codes, weights_of}
 use Rattle.echelon.specs.Rows.{Figured}
+pub use Rattle.echelon.specs.Rows.{CodedRow}
 use Rattle.echelon.specs.Reduced.{Pivoted}
 use Rattle.record.specs.declared.rows.FiguredRow.{FiguredRow}
 use Rattle.record.specs.declared.rows.RecordRow.{RecordRow}
@@ -24,6 +25,3 @@ figured_record_row r = figured_row r.row
 pub record SameRow (n : ℕ) (g h : Figured) : Type 0 where
   pub rows : (m : ℕ) → m < n → g.row m ≡ h.row m
   pub figures : g.figure ≡ h.figure
-
-abbrev pub CodedRow : FieldModel → ℕ → Figured → Type 0
-CodedRow M n g = Codes M n g.row × (g.figure < M.size)
