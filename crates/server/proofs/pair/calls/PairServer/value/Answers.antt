@@ -22,4 +22,4 @@ returns g c =
     let a = c.in_ok-a.ensures in
     let b = c.in_ok-b.ensures in
     let inside : m < length (sums M t u) = omega (arith, sums-length M t u, a.0, b.0) in
-    (inside, c.add.ensures.is ∙ ap₂ M.plus a.1 b.1 ∙ sym (sums_at M t u m a.0 b.0))
+    (inside, c.add.ensures.is ∙ ap₂ M.plus (search (a.1)) (search (b.1)) ∙ sym (sums_at M t u m a.0 b.0))
