@@ -1,4 +1,5 @@
--- The items of a line, from what their reader finds. Assumes nothing.
+-- The items of a line, from what their reader finds. A limit, a weight or a place that the code names is an argument, with the
+-- equation that says which it has to be. Assumes nothing.
 use Rattle.std.proofs.Common.{◌≡◌, ℕ, zero, suc, ◌+◌, ◌-◌, ◌<◌, ◌≤◌, true, false, cond, eqb, List, length, set, Ok, Err, Result, sym, refl, ap, ◌∙◌, subst, ⊎_elim, arith}
 use Rattle.std.proofs.lemmas.Bool.{cases_Bool, cases_lt, cond-true, cond-false, eq-eqb, ne_eqb, eqb-true, not-false, not_from_true}
 use Rattle.field.specs.Sums.{weights_of}

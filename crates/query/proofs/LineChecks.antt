@@ -1,4 +1,5 @@
--- A line, from what its reader finds. Assumes nothing.
+-- A line, from what its reader finds. A limit or a request that the code names is an argument, with the equation that says which
+-- it has to be. Assumes nothing.
 use Rattle.std.proofs.Common.{◌≡◌, ℕ, ◌<◌, ◌≤◌, cond, eqb, ltb, List, [], ◌∷◌, length, Some, None, Ok, Err, Result, sym, refl, ap, ◌∙◌, arith}
 use Rattle.std.proofs.lemmas.Bool.{cond-true, cond-false, eq-eqb, ne_eqb, lt-ltb, le-ltb}
 use Rattle.query.specs.declared.faults.ItemFault.{ItemFault}
