@@ -1,7 +1,7 @@
 -- The checks of a number, from what its reader finds at a place. Assumes nothing.
 use Rattle.std.proofs.Common.{◌≡◌, ℕ, ◌+◌, ◌-◌, ◌<◌, ◌≤◌, Bool, true, false, cond, ◌&&◌, eqb, ltb, ◌⊎◌, List, [], ◌∷◌, length, get_or, drop, Ok, Err, Result, sym, refl, ap, ◌∙◌, inl, inr, ⊎_elim, arith, length-drop}
 use Rattle.std.specs.Char.{is_ascii_digit}
-use Rattle.std.proofs.lemmas.Bool.{cond-true, cond-false, and_parts, and_cases, leb-true, ltb-true, ltb-false, eqb-false, and_from, and_left, and_right, lt-ltb, le-ltb, le-leb, lt-leb}
+use Rattle.std.proofs.lemmas.Bool.{cases_lt, cond-true, cond-false, and_parts, and_cases, leb-true, ltb-true, ltb-false, eqb-false, and_from, and_left, and_right, lt-ltb, le-ltb, le-leb, lt-leb}
 use Rattle.std.proofs.lemmas.Bool.Decides.{nat_tests}
 use Rattle.query.specs.declared.faults.DigitFault.{DigitFault}
 use Rattle.query.specs.declared.faults.NumberFault.TheVariants.{NoDigit, LeadingZero, TooManyDigits, OutOfRange}
@@ -102,10 +102,11 @@ module _ (least limit : ℕ) (line : List ℕ) (p : ℕ) where
         (v : ℕ) (no_zero : (eqb d 0 && ltb 1 (length (digits (drop p line)))) ≡ false) (short : length (digits (drop p line)) ≤ 5)
         (is : v ≡ worth 0 (digits (drop p line))) where
       pub number_out :
-          (v < least) ⊎ ((least ≤ v) × (limit ≤ v)) → Err (OutOfRange (place p)) ≡ read_number least limit line p
-      number_out out =
-          sym (number-ranged no_zero short
-          ∙ out_of_range least limit p (digits (drop p line)) (⊎_elim (λ l. inl (rw is at l)) (λ h. inr (rw is at h.1)) out))
+          {start : ℕ} → start ≡ p → (least ≤ v → limit ≤ v) → Err (OutOfRange (place start)) ≡ read_number least limit line p
+      number_out e out =
+          ap (λ x. Err (OutOfRange (place x))) e
+          ∙ sym (number-ranged no_zero short
+          ∙ out_of_range least limit p (digits (drop p line)) (⊎_elim (λ l. inl (rw is at l)) (λ h. inr (rw is at (out h))) (cases_lt v least)))
 
       pub number_in :
           (end : ℕ) → end ≡ p + length (digits (drop p line)) → least ≤ v → v < limit

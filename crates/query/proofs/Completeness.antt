@@ -68,7 +68,7 @@ module _ (lim : Limits) (few : lim.members ≤ 64) (size : lim.size ≤ 65536) (
       let here : Numeral = record { start = place (p + 1); value = m; after = place (p + 1 + length (decimal m)) } in
       let after : p + 1 + length (decimal m) ≡ p + length (text (alone m)) = omega arith in
       item_weighed lim row line p here r (unnamed_zero row m unnamed)
-      ∙ weighed-plain lim line here
+      ∙ weighed-plain lim line here refl
       (ends_colon line (p + 1 + length (decimal m)) rest (spaced-left lim.members m line p rest (omega arith) below e) ends)
       ∙ ap (λ q. Ok (record { member = record { 0 = m }; weight = code 1; after = place q })) after
   item_reads (weighted m w) row p rest range unnamed e ends =
@@ -85,7 +85,7 @@ module _ (lim : Limits) (few : lim.members ≤ 64) (size : lim.size ≤ 65536) (
       let sizes = length-append (decimal m) (58 ∷ decimal w) in
       let after : q + 1 + length (decimal w) ≡ p + length (text (weighted m w)) = omega arith in
       item_weighed lim row line p here r (unnamed_zero row m unnamed)
-      ∙ weighed_more lim line here _ (front-stands line q 58 (decimal w ++ rest) after-m) n
+      ∙ weighed_more lim line here _ refl (front-stands line q 58 (decimal w ++ rest) after-m) n
       ∙ ap (λ k. Ok (record { member = record { 0 = m }; weight = code w; after = place k })) after
 
   text-some : (e : Entry) → 0 < length (text e)
@@ -143,18 +143,18 @@ module _ (lim : Limits) (few : lim.members ≤ 64) (size : lim.size ≤ 65536) w
       let second = spaced-reads lim.size e line q [] (omega arith) below-e whole refl in
       let n = length-append (32 ∷ decimal m) (32 ∷ decimal e) in
       let end : length line ≤ q + 1 + length (decimal e) = omega arith in
-      witness_fine lim line 1 _ first _ second end
+      witness_fine lim line 1 _ first _ refl second end
 
   spelt-reads :
       (line : List ℕ) (q : Request) → Spells lim line q → ((byte_at line 0 ≡ Some 35 → ⊥) → length line ≤ 640) → reading lim line ≡ Ok q
   spelt-reads line q (ask e es named) short =
       let row = items_read lim few size line e es no_weights 1 named (all_unnamed (e ∷ es)) refl in
       reading-short lim line 97 refl (λ z. omega arith) (short (λ z. not_remark 97 (λ k. omega arith) z))
-      ∙ kind-ask lim 97 line refl ∙ row_fine Ask _ _ row
+      ∙ kind-ask lim 97 line refl ∙ row_fine Ask _ _ row refl
   spelt-reads line q (try e es named) short =
       let row = items_read lim few size line e es no_weights 1 named (all_unnamed (e ∷ es)) refl in
       reading-short lim line 116 refl (λ z. omega arith) (short (λ z. not_remark 116 (λ k. omega arith) z))
-      ∙ kind-try lim 116 line refl ∙ row_fine Try _ _ row
+      ∙ kind-try lim 116 line refl ∙ row_fine Try _ _ row refl
   spelt-reads line q (witness m e below-m below-e) short =
       reading-short lim line 119 refl (λ z. omega arith) (short (λ z. not_remark 119 (λ k. omega arith) z))
       ∙ kind-witness lim 119 line refl ∙ witness-reads m e below-m below-e

@@ -51,9 +51,10 @@ reads_decimal least limit v line p rest small low high e none =
     let ds : digits (drop p line) ≡ decimal v = ap digits e ∙ digits_append (decimal v) rest (digits_decimal own v fits) none in
     ap (spelt least limit p) ds ∙ decimal_spelt least limit v p small low high
 
-pub reads_back : ReadsBack 100000
-reads_back v small least limit low high before rest none =
-    reads_decimal least limit v (before ++ (decimal v ++ rest)) (length before) rest small low high
+-- below a bound that leaves five digits
+pub reads_back : (bound : ℕ) → bound ≤ 100000 → ReadsBack bound
+reads_back bound short v small least limit low high before rest none =
+    reads_decimal least limit v (before ++ (decimal v ++ rest)) (length before) rest (omega arith) low high
     (drop_at before (decimal v ++ rest) (length before) refl) none
 
 -- a number that was read stood there in decimal

@@ -1,8 +1,10 @@
--- The items of a line, from what their reader finds. Assumes nothing.
+-- The items of a line, from what their reader finds. A limit, a weight or a place that the code names is an argument, with the
+-- equation that says which it has to be. Assumes nothing.
 use Rattle.std.proofs.Common.{◌≡◌, ℕ, zero, suc, ◌+◌, ◌-◌, ◌<◌, ◌≤◌, true, false, cond, eqb, List, length, set, Ok, Err, Result, sym, refl, ap, ◌∙◌, subst, ⊎_elim, arith}
 use Rattle.std.proofs.lemmas.Bool.{cases_Bool, cases_lt, cond-true, cond-false, eq-eqb, ne_eqb, eqb-true, not-false, not_from_true}
 use Rattle.field.specs.Sums.{weights_of}
 use Rattle.field.specs.declared.Element.{Element}
+use Rattle.refusal.specs.declared.BytePlace.{BytePlace}
 use Rattle.query.specs.declared.faults.NumberFault.{NumberFault}
 use Rattle.query.specs.declared.faults.ItemFault.{ItemFault}
 use Rattle.query.specs.declared.faults.ItemFault.TheVariants.{NoSpace, Number, Repeated}
@@ -61,24 +63,32 @@ pub data Weighed (lim : Limits) (line : List ℕ) (m : Numeral) : Item → Type 
 
 module _ (lim : Limits) (line : List ℕ) (m : Numeral) where
   pub weighed-plain :
-      stands_at line m.after.0 58 ≡ false
-      → weighed lim line m ≡ Ok (record { member = record { 0 = m.value }; weight = code 1; after = m.after })
-  weighed-plain f = cond-false _ _ _ f
+      {weight : ℕ} (one : weight ≡ 1) → stands_at line m.after.0 58 ≡ false
+      → weighed lim line m ≡ Ok (record { member = record { 0 = m.value }; weight = code weight; after = m.after })
+  weighed-plain one f =
+      cond-false _ _ _ f ∙ ap (λ w. Ok (record { member = record { 0 = m.value }; weight = code w; after = m.after })) (sym one)
 
   colon : Result Numeral NumberFault → Result Item ItemFault
   colon r = then (of_item r) (λ w. Ok (record { member = record { 0 = m.value }; weight = code w.value; after = w.after }))
 
+  -- the weight read after a colon, as its reader was asked for it
+  from_one :
+      {least : ℕ} {r : Result Numeral NumberFault} → least ≡ 1 → read_number least lim.size line (m.after.0 + 1) ≡ r
+      → read_number 1 lim.size line (m.after.0 + 1) ≡ r
+  from_one one e = ap (λ l. read_number l lim.size line (m.after.0 + 1)) (sym one) ∙ e
+
   pub weighed_fault :
-      (f : NumberFault) → stands_at line m.after.0 58 ≡ true → read_number 1 lim.size line (m.after.0 + 1) ≡ Err f
-      → weighed lim line m ≡ Err (Number f)
+      (f : NumberFault) {least : ℕ} (one : least ≡ 1) → stands_at line m.after.0 58 ≡ true
+      → read_number least lim.size line (m.after.0 + 1) ≡ Err f → weighed lim line m ≡ Err (Number f)
   unfolding colon
-  weighed_fault f t e = cond-true _ _ _ t ∙ ap colon e
+  weighed_fault f one t e = cond-true _ _ _ t ∙ ap colon (from_one one e)
 
   pub weighed_more :
-      (w : Numeral) → stands_at line m.after.0 58 ≡ true → read_number 1 lim.size line (m.after.0 + 1) ≡ Ok w
+      (w : Numeral) {least : ℕ} (one : least ≡ 1) → stands_at line m.after.0 58 ≡ true
+      → read_number least lim.size line (m.after.0 + 1) ≡ Ok w
       → weighed lim line m ≡ Ok (record { member = record { 0 = m.value }; weight = code w.value; after = w.after })
   unfolding colon
-  weighed_more w t e = cond-true _ _ _ t ∙ ap colon e
+  weighed_more w one t e = cond-true _ _ _ t ∙ ap colon (from_one one e)
 
   pub weighed_ok : (i : Item) → weighed lim line m ≡ Ok i → Weighed lim line m i
   unfolding colon
@@ -99,10 +109,10 @@ module _ (lim : Limits) (row : List Element) (line : List ℕ) (p : ℕ) where
   item_fault f e = ap (λ r. then r after_member) e
 
   pub item_repeated :
-      (m : Numeral) → read_spaced_lem lim.members line p ≡ Ok m → names row m.value ≡ true
-      → read_item_lem lim row line p ≡ Err (Repeated m.start)
+      (m : Numeral) {start : BytePlace} → start ≡ m.start → read_spaced_lem lim.members line p ≡ Ok m → names row m.value ≡ true
+      → read_item_lem lim row line p ≡ Err (Repeated start)
   unfolding read_item_lem after_member
-  item_repeated m e n = ap (λ r. then r after_member) e ∙ cond-true _ _ _ n
+  item_repeated m s e n = ap (λ r. then r after_member) e ∙ cond-true _ _ _ n ∙ ap (λ q. Err (Repeated q)) (sym s)
 
   pub item_weighed :
       (m : Numeral) → read_spaced_lem lim.members line p ≡ Ok m → names row m.value ≡ false

@@ -10,7 +10,6 @@ pub mod Exactness
 pub mod Stops
 pub mod Begins
 pub mod Parting
-pub mod Worked
 pub mod Places
 pub mod Rows
 pub mod NumberFaults

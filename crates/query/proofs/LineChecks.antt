@@ -1,5 +1,6 @@
--- A line, from what its reader finds. Assumes nothing.
-use Rattle.std.proofs.Common.{◌≡◌, ℕ, ◌<◌, ◌≤◌, cond, eqb, ltb, List, [], ◌∷◌, length, Some, None, Ok, Err, Result, refl, ap, ◌∙◌, arith}
+-- A line, from what its reader finds. A limit or a request that the code names is an argument, with the equation that says which
+-- it has to be. Assumes nothing.
+use Rattle.std.proofs.Common.{◌≡◌, ℕ, ◌<◌, ◌≤◌, cond, eqb, ltb, List, [], ◌∷◌, length, Some, None, Ok, Err, Result, sym, refl, ap, ◌∙◌, arith}
 use Rattle.std.proofs.lemmas.Bool.{cond-true, cond-false, eq-eqb, ne_eqb, lt-ltb, le-ltb}
 use Rattle.query.specs.declared.faults.ItemFault.{ItemFault}
 use Rattle.query.specs.declared.faults.LineFault.{LineFault}
@@ -31,12 +32,23 @@ module _ (lim : Limits) (line : List ℕ) (p : ℕ) where
   witness_fault f e = ap (λ r. then (of_line r) after_member) e
 
   module _ (m : Numeral) (found : read_spaced_lem lim.members line p ≡ Ok m) where
-    pub witness_element_fault :
-        (f : ItemFault) → read_spaced_lem lim.size line m.after.0 ≡ Err f → read_witness_lem lim line p ≡ Err (Item f)
-    unfolding read_witness_lem after_member after_element
-    witness_element_fault f e = ap (λ r. then (of_line r) after_member) found ∙ ap (λ r. then (of_line r) (after_element m)) e
+    -- the second number, as its reader was asked for it
+    below_size :
+        {limit : ℕ} {r : Result Numeral ItemFault} → limit ≡ lim.size → read_spaced_lem limit line m.after.0 ≡ r
+        → read_spaced_lem lim.size line m.after.0 ≡ r
+    below_size is e = ap (λ k. read_spaced_lem k line m.after.0) (sym is) ∙ e
 
-    module _ (e : Numeral) (second : read_spaced_lem lim.size line m.after.0 ≡ Ok e) where
+    pub witness_element_fault :
+        (f : ItemFault) {limit : ℕ} (size : limit ≡ lim.size) → read_spaced_lem limit line m.after.0 ≡ Err f
+        → read_witness_lem lim line p ≡ Err (Item f)
+    unfolding read_witness_lem after_member after_element
+    witness_element_fault f size e =
+        ap (λ r. then (of_line r) after_member) found ∙ ap (λ r. then (of_line r) (after_element m)) (below_size size e)
+
+    module _ (e : Numeral) {limit : ℕ} (size : limit ≡ lim.size) (asked : read_spaced_lem limit line m.after.0 ≡ Ok e) where
+      second : read_spaced_lem lim.size line m.after.0 ≡ Ok e
+      second = below_size size asked
+
       pub witness_long : e.after.0 < length line → read_witness_lem lim line p ≡ Err (NotEnded e.after)
       unfolding read_witness_lem after_member after_element
       witness_long h =
@@ -84,9 +96,11 @@ pub row_fault :
 unfolding rows
 row_fault make r f e = ap (rows make) e
 
-pub row_fine : {A : Type 0} (make : Weights → A) (r : Result Weights ItemFault) (row : Weights) → r ≡ Ok row → rows make r ≡ Ok (make row)
+pub row_fine :
+    {A : Type 0} (make : Weights → A) (r : Result Weights ItemFault) (row : Weights) {made : A} → r ≡ Ok row → made ≡ make row
+    → rows make r ≡ Ok made
 unfolding rows
-row_fine make r row e = ap (rows make) e
+row_fine make r row e is = ap (rows make) e ∙ ap Ok (sym is)
 
 module _ (lim : Limits) (b : ℕ) (line : List ℕ) where
   pub kind-ask : b ≡ 97 → by_kind b lim line ≡ rows Ask (read_items_lem lim no_weights line 1)

@@ -1,4 +1,4 @@
-use Rattle.std.proofs.Common.{◌≡◌, take, IfSome, ℕ, List, [], ◌++◌, Option, Some, None, option_map, ap, subst, ◌∙◌}
+use Rattle.std.proofs.Common.{◌≡◌, take, IfSome, ℕ, List, [], ◌++◌, Option, Some, None, option_map, ap, subst, ◌∙◌, arith}
 use Rattle.replay.proofs.read_text.Goals as goal
 
 -- Of known bytes those up to the limit are read.
@@ -9,4 +9,4 @@ first (Some all) limit before read most none bytes = bytes ∙ ap (λ b. b ++ ta
 
 -- src/main.rt:24:1
 pub returns : goal.returns
-returns g c = first (g.R.Read.remaining c.args.input) c.take.result.limit c.new-text.result.items c.read_to_end.new.buf.items c.take.ensures.limit c.new-text.ensures.items (subst (λ r. IfSome (option_map (take c.take.result.limit) (g.R.Read.remaining r)) (λ xs. c.read_to_end.new.buf.items ≡ c.new-text.result.items ++ xs)) c.take.ensures.inner c.in_ok-read_to_end.ensures.bytes)
+returns g c = first (g.R.Read.remaining c.args.input) c.take.result.limit c.new-text.result.items c.read_to_end.new.buf.items (omega (arith, c.take.ensures.limit)) c.new-text.ensures.items (subst (λ r. IfSome (option_map (take c.take.result.limit) (g.R.Read.remaining r)) (λ xs. c.read_to_end.new.buf.items ≡ c.new-text.result.items ++ xs)) c.take.ensures.inner c.in_ok-read_to_end.ensures.bytes)

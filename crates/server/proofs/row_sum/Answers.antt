@@ -1,4 +1,4 @@
-use Rattle.std.proofs.Common.{◌≡◌, ℕ, ◌+◌, ◌-◌, ◌<◌, ◌≤◌, length, get_or, sym, refl, ap, ◌∙◌, arith}
+use Rattle.std.proofs.Common.{◌≡◌, ℕ, ◌+◌, ◌-◌, ◌<◌, ◌≤◌, length, get_or, sym, refl, ap, ap₂, ◌∙◌, arith}
 use Rattle.std.proofs.lemmas.List.{get_or_past}
 use Rattle.field.specs.Sums.{sum, weights_of}
 use Rattle.field.proofs.Zero.{zero-code}
@@ -33,7 +33,7 @@ loop-weight-preserved g c =
           let added : c.if-weight-ne0.total.0 ≡ M.plus (sum M m w t) (M.times (w m) (t m)) =
           ap (λ e. e.0) is ∙ v.add-total.ensures.is
           ∙ ap (λ x. M.plus x v.mul.result.0) inv.3
-          ∙ ap (M.plus (sum M m w t)) (v.mul.ensures.is ∙ ap (M.times _) v.in-Some.ensures.1 ∙ ap (λ x. M.times x (t m)) (sym weight))
+          ∙ ap (M.plus (sum M m w t)) (v.mul.ensures.is ∙ ap₂ M.times (sym weight) (search (v.in-Some.ensures.1)))
           in (omega arith, more, within, added ∙ sym (sum_more M L w t m))
       | then-weight-ne0+in_default v ↦ absurd (omega (arith, v.in_default.ensures))
       | else-weight-ne0 v ↦

@@ -1,4 +1,4 @@
-use Rattle.std.proofs.Common.{sym, refl, ◌∙◌, true≢false, arith}
+use Rattle.std.proofs.Common.{sym, ◌∙◌, true≢false, arith}
 use Rattle.stored.specs.Stored.{no_header, wrong_kind, wrong_count, accepted}
 use Rattle.stored.proofs.header_count.Goals as goal
 
@@ -6,15 +6,14 @@ pub returns-in_default : goal.returns-in_default
 returns-in_default g c = no_header (omega arith)
 
 pub returns-then-kind : goal.returns-then-kind
-returns-then-kind g c = wrong_kind (omega arith) (λ e. c.if-kind.true (e ∙ sym c.kind.ensures))
+returns-then-kind g c = wrong_kind (omega arith) (omega (arith, c.kind.ensures))
 
 pub returns-then-not-is_count : goal.returns-then-not-is_count
 returns-then-not-is_count g c =
-    wrong_count (omega arith) (c.if-kind.false ∙ c.kind.ensures)
+    wrong_count (omega arith) (omega (arith, c.kind.ensures))
     (λ n. true≢false (sym (c.is_count.ensures.1 (omega arith, omega arith)) ∙ c.if-not-is_count.true))
 
 pub returns : goal.returns
 returns g c =
     let count = c.is_count.ensures.0 c.if-not-is_count.false in
-    let kind = c.if-kind.false ∙ c.kind.ensures in
-    (accepted (record { header = omega arith; kind = kind; count = (omega arith, omega arith) }), refl)
+    (accepted (record { header = omega arith; kind = omega (arith, c.kind.ensures); count = (omega arith, omega arith) }), omega arith)

@@ -1,4 +1,4 @@
-use Rattle.std.proofs.Common.{◌≡◌, ℕ, ap, ◌∙◌}
+use Rattle.std.proofs.Common.{◌≡◌, ℕ, min, ap, ◌∙◌, arith}
 use Rattle.query.specs.declared.items.Limits.{Limits}
 use Rattle.query.specs.Lines.{limits, reading}
 use Rattle.query.proofs.Exactness.{exact}
@@ -12,8 +12,9 @@ same m n s t e f = ap (λ k. record { members = k; size = s }) e ∙ ap (λ k. r
 
 pub returns : goal.returns
 returns g c =
+    let members : c.min.result ≡ min c.args.n 64 = omega (arith, c.min.ensures) in
     let e =
-    c.read.ensures ∙ ap (λ k. reading k c.args.line.now) (same _ _ _ _ c.min.ensures c.size.ensures) in
+    c.read.ensures ∙ ap (λ k. reading k c.args.line.now) (same _ _ _ _ members c.size.ensures) in
     record {
       is = e;
       exact = exact g.F.Field.model g.met.F.Field.laws c.args.n c.args.line.now _ e;

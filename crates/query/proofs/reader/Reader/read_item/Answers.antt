@@ -17,13 +17,20 @@ names-requires c =
 
 pub returns-then-names : goal.returns-then-names
 returns-then-names c =
-    sym (item_repeated _ _ c.args.self.now.line.now c.args.at.0 _ (sym c.read_spaced.ensures ∙ c.in_ok-found.was) (sym c.names.ensures ∙ c.if-names.true))
+    sym (item_repeated _ _ c.args.self.now.line.now c.args.at.0 _ (search) (sym c.read_spaced.ensures ∙ c.in_ok-found.was) (sym c.names.ensures ∙ c.if-names.true))
 
 pub returns-then-not-stands : goal.returns-then-not-stands
 returns-then-not-stands c =
     sym (item_weighed _ _ c.args.self.now.line.now c.args.at.0 c.in_ok-found.found (sym c.read_spaced.ensures ∙ c.in_ok-found.was)
     (sym c.names.ensures ∙ c.if-names.false)
-    ∙ weighed-plain c.args.self.now.limits c.args.self.now.line.now c.in_ok-found.found (sym c.stands.ensures ∙ c.if-not-stands.true))
+    ∙ weighed-plain c.args.self.now.limits c.args.self.now.line.now c.in_ok-found.found (search) (sym c.stands.ensures ∙ c.if-not-stands.true))
+
+pub returns : goal.returns
+returns c =
+    sym (item_weighed _ _ c.args.self.now.line.now c.args.at.0 c.in_ok-found.found (sym c.read_spaced.ensures ∙ c.in_ok-found.was)
+    (sym c.names.ensures ∙ c.if-names.false)
+    ∙ weighed_more c.args.self.now.limits c.args.self.now.line.now c.in_ok-found.found _ (search) (sym c.stands.ensures ∙ c.if-not-stands.false)
+    (sym c.read_number.ensures ∙ c.in_ok-weight.was))
 
 pub returns-in_err-weight : goal.returns-in_err-weight
 returns-in_err-weight c =
@@ -31,12 +38,5 @@ returns-in_err-weight c =
     rw (p.1, p.2)
     (sym (item_weighed _ _ c.args.self.now.line.now c.args.at.0 c.in_ok-found.found (sym c.read_spaced.ensures ∙ c.in_ok-found.was)
     (sym c.names.ensures ∙ c.if-names.false)
-    ∙ weighed_fault c.args.self.now.limits c.args.self.now.line.now c.in_ok-found.found _ (sym c.stands.ensures ∙ c.if-not-stands.false)
+    ∙ weighed_fault c.args.self.now.limits c.args.self.now.line.now c.in_ok-found.found _ (search) (sym c.stands.ensures ∙ c.if-not-stands.false)
     (sym c.read_number.ensures ∙ c.in_err-weight.was)))
-
-pub returns : goal.returns
-returns c =
-    sym (item_weighed _ _ c.args.self.now.line.now c.args.at.0 c.in_ok-found.found (sym c.read_spaced.ensures ∙ c.in_ok-found.was)
-    (sym c.names.ensures ∙ c.if-names.false)
-    ∙ weighed_more c.args.self.now.limits c.args.self.now.line.now c.in_ok-found.found _ (sym c.stands.ensures ∙ c.if-not-stands.false)
-    (sym c.read_number.ensures ∙ c.in_ok-weight.was))

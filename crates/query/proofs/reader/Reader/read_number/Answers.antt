@@ -63,7 +63,7 @@ returns-then-value-least c =
     let n = counted line at _ c.digit_count-count.ensures in
     number_out _ _ line at _ (sym c.read_digit.ensures ∙ c.in_ok-first.was) c.digits_worth-value.result
     (tested line at _ _ _ _ n c.leading_zero.ensures c.if-leading_zero.false) (omega (arith, n))
-    (c.digits_worth-value.ensures ∙ ap (worth 0) (part line at _ n)) c.then-value-least.either
+    (c.digits_worth-value.ensures ∙ ap (worth 0) (part line at _ n)) (omega arith) (omega arith)
 
 pub returns : goal.returns
 returns c =

@@ -1,5 +1,5 @@
 -- Answers for `value`: the element of a member of the view.
-use Rattle.std.proofs.Common.{ap, ◌∙◌, arith}
+use Rattle.std.proofs.Common.{◌≡◌, ap, ◌∙◌, arith}
 use Rattle.server.specs.Tables.{element_or_zero_lem}
 use Rattle.server.proofs.Listed.{answered}
 use Rattle.table_file.specs.Files.{count_of, file_value}
@@ -10,4 +10,5 @@ returns g c =
     let M = g.F.Field.model in
     let bs = c.args.self.now.bytes.now in
     let m = c.args.m.0 in
-    answered M (count_of bs) (file_value M bs) m _ (omega (arith, c.count.ensures.is)) (c.element_or_zero.ensures ∙ ap (element_or_zero_lem M) c.stored_code.ensures)
+    let stored : c.stored_code.result.0 ≡ file_value M bs m = search (c.stored_code.ensures) in
+    answered M (count_of bs) (file_value M bs) m _ (omega (arith, c.count.ensures.is)) (c.element_or_zero.ensures ∙ ap (element_or_zero_lem M) stored)

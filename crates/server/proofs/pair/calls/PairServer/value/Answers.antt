@@ -11,7 +11,7 @@ returns-in_err-a g c =
 pub returns-in_err-b : goal.returns-in_err-b
 returns-in_err-b g c =
     let p = c.args.self.now in
-    rw c.from_residual-in_err-b.ensures (sums_past g.L.Over.Field.model (g.L.Server.table p.left) (g.R.Server.table p.right) _ (inr c.in_err-b.ensures))
+    rw c.from_residual-in_err-b.ensures (sums_past g.L.Over.Field.model (g.L.Server.table p.left) (g.R.Server.table p.right) _ (inr (omega (arith, c.in_err-b.ensures))))
 
 pub returns : goal.returns
 returns g c =
@@ -22,4 +22,4 @@ returns g c =
     let a = c.in_ok-a.ensures in
     let b = c.in_ok-b.ensures in
     let inside : m < length (sums M t u) = omega (arith, sums-length M t u, a.0, b.0) in
-    (inside, c.add.ensures.is ∙ ap₂ M.plus a.1 b.1 ∙ sym (sums_at M t u m a.0 b.0))
+    (inside, c.add.ensures.is ∙ ap₂ M.plus (search (a.1)) (search (b.1)) ∙ sym (sums_at M t u m a.0 (omega (arith, b.0))))
