@@ -25,6 +25,7 @@ returns-then-factor-eq0 g c =
       coded = own;
     }
 
+-- below the pivot of `by` nothing is added, and from it on a multiple of `by`
 pub returns-clause-is : goal.returns-clause-is
 returns-clause-is g c =
     let M = g.F.Field.model in

@@ -5,6 +5,7 @@ use Rattle.echelon.proofs.Values.{times_nothing}
 use Rattle.record.proofs.Parts.{part_was, after_part}
 use Rattle.record.proofs.rows.FiguredRow.scale.Goals as goal
 
+-- below `from` the row is 0, as it was
 pub returns-clause-is : goal.returns-clause-is
 returns-clause-is g c =
     let M = g.F.Field.model in
