@@ -10,6 +10,7 @@ use Rattle.field.specs.Model.{FieldModel, FieldLaws}
 use Rattle.field.specs.Sums.{Vector, Codes, weights_of}
 use Rattle.field.specs.declared.Element.{Element}
 use Rattle.field.proofs.Zero.{zero-code}
+use Rattle.server.specs.Checks.{Count}
 use Rattle.member_map.specs.Maps.{named}
 use Rattle.record.proofs.Weights.{past_end}
 use Rattle.answer_log.specs.Rows.{header_bytes, row_bytes}
@@ -163,6 +164,11 @@ header_of M n bs (rows _ header rest) = header
 pub rows_of : (M : FieldModel) (n : ℕ) (bs : List ℕ) → LogCheck M n bs None → RowsCheck M n 0 (drop 2 bs) None
 rows_of M n bs (rows _ header rest) = rest
 
+-- a header for a count of members is written where there is room
+pub write_excluded : (n room : ℕ) (e : Refusal) → Count n → 2 ≤ room → HeaderWrite n room (Some e) → ⊥
+write_excluded n room _ count h (no-count none) = none count
+write_excluded n room _ count h (no_room some full) = omega arith
+
 module _ (M : FieldModel) (n : ℕ) (bytes : List ℕ) where
   pub header_long : HeaderCheck M n bytes None → 2 ≤ length bytes
   header_long (accepted long kind count same) = long
@@ -172,9 +178,8 @@ module _ (M : FieldModel) (n : ℕ) (bytes : List ℕ) where
       ap (take 2) (drop_more bytes 0 0 (omega arith) ∙ ap (λ us. get_or bytes 0 0 ∷ us) (drop_more bytes 1 0 (omega arith)))
       ∙ ap₂ (λ x y. x ∷ y ∷ []) kind same
 
-  pub header_excluded : (room : ℕ) (e : Refusal) → HeaderCheck M n bytes None → 2 ≤ room → HeaderWrite n room (Some e) → ⊥
-  header_excluded room _ (accepted long kind count same) h (no-count none) = none count
-  header_excluded room _ (accepted long kind count same) h (no_room some full) = omega arith
+  pub header_count : HeaderCheck M n bytes None → Count n
+  header_count (accepted long kind count same) = count
 
   module _ (header : HeaderCheck M n bytes None) (o out : List ℕ) (k : ℕ) (put : Put (header_bytes M n) o out k)
       (room : length bytes ≤ length o) where

@@ -1,5 +1,6 @@
 pub mod Checks
 pub mod Weights
+pub mod Parts
 pub mod Views
 pub mod Alone
 pub mod Join

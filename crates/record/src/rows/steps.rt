@@ -100,7 +100,7 @@ impl RecordRow {
         requires by_coded { CodedRow F.model n (figured_record_row by.now) }
         requires lowest { (m : ℕ) → m < self.now.pivot.0 → weights_of self.now.row.weights m ≡ 0 }
         requires by_lowest { (m : ℕ) → m < by.now.pivot.0 → weights_of by.now.row.weights m ≡ 0 }
-        ensures { MatchOption result ((m : ℕ) → m < n → m ≢ self.now.pivot.0 → (cleared F.model (pivoted by.now) (figured_record_row self.now)).row m ≡ 0) (λ p. (p.0 < n) × (p.0 ≢ self.now.pivot.0) × ((cleared F.model (pivoted by.now) (figured_record_row self.now)).row p.0 ≢ 0)) }
+        ensures { MatchOption result ((m : ℕ) → m < n → m ≢ self.now.pivot.0 → (cleared F.model (pivoted by.now) (figured_record_row self.now)).row m ≡ 0) (λ p. (p.0 < n) × (p.0 ≢ self.now.pivot.0) × ((cleared F.model (pivoted by.now) (figured_record_row self.now)).row p.0 ≢ 0) × ((m : ℕ) → m < p.0 → m ≢ self.now.pivot.0 → (cleared F.model (pivoted by.now) (figured_record_row self.now)).row m ≡ 0)) }
     {
         let factor = self.row.weights[by.pivot.0];
         if factor.0 == 0 {

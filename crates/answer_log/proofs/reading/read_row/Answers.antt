@@ -1,5 +1,5 @@
 -- Answers for `read_row`: the row at the place.
-use Rattle.std.proofs.Common.{ℕ, List, drop, refl, subst}
+use Rattle.std.proofs.Common.{ℕ, List, drop, subst, arith}
 use Rattle.std.proofs.lemmas.Bool.Decides.{not_from_Decides}
 use Rattle.field.specs.Sums.{weights_of}
 use Rattle.answer_log.specs.Entries.{wrong_count, Reads}
@@ -20,4 +20,4 @@ returns g c =
     let rest = rest_is M n row bytes at _ c.min.ensures in
     let reads : Reads M n row (drop at bytes) (weights_of entry.weights) entry.figure.0 entry.next =
     subst (λ (bs : List ℕ). Reads M n row bs (weights_of entry.weights) entry.figure.0 entry.next) rest c.in_ok-entry.ensures in
-    row_at M n row bytes at (weights_of entry.weights) entry.figure.0 entry.next (λ i. (c.type_inv.bytes i).fits) _ refl reads
+    row_at M n row bytes at (weights_of entry.weights) entry.figure.0 entry.next (λ i. (c.type_inv.bytes i).fits) _ (omega arith) reads

@@ -1,8 +1,10 @@
 -- Answers for `rewrite`: which check failed, or the log.
 use Rattle.std.proofs.Common.{refl, arith}
 use Rattle.std.proofs.lemmas.Result.{err_from_is_err_and}
+use Rattle.buffer.specs.Buffers.{Put}
+use Rattle.answer_log.specs.Rows.{header_bytes}
 use Rattle.answer_log.specs.Logs.{bad_log, log_full, accepted}
-use Rattle.answer_log.proofs.Logs.{header_of, rows_of, header_long, header_excluded, header-front, header-kept, log_put}
+use Rattle.answer_log.proofs.Logs.{header_of, rows_of, header_long, header_count, write_excluded, header-front, header-kept, log_put}
 use Rattle.answer_log.proofs.rewriting.rewrite.Goals as goal
 
 pub returns-in_err-check_log : goal.returns-in_err-check_log
@@ -18,7 +20,8 @@ returns-in_err-write_header g c =
     let M = g.F.Field.model in
     let header = header_of M c.args.n c.args.bytes.now c.in_ok-check_log.ensures in
     let long = header_long M c.args.n c.args.bytes.now header in
-    absurd (header_excluded M c.args.n c.args.bytes.now _ _ header (omega arith) c.in_err-write_header.ensures.0)
+    let count = header_count M c.args.n c.args.bytes.now header in
+    absurd (write_excluded _ _ _ (omega (arith, count)) (omega arith) c.in_err-write_header.ensures.0)
 
 pub rewrite_rows-requires : goal.rewrite_rows-requires
 rewrite_rows-requires g c =
@@ -26,7 +29,7 @@ rewrite_rows-requires g c =
     let n = c.args.n in
     let bytes = c.args.bytes.now in
     let header = header_of M n bytes c.in_ok-check_log.ensures in
-    let put = c.in_ok-write_header.ensures.1 in
+    let put : Put (header_bytes M n) c.args.out.now c.write_header.new.out c.in_ok-write_header.field-0 = search (c.in_ok-write_header.ensures) in
     record {
       rows = rows_of M n bytes c.in_ok-check_log.ensures;
       header = header-front M n bytes header c.args.out.now c.write_header.new.out _ put c.if-out-bytes.false;
@@ -39,7 +42,7 @@ returns g c =
     let n = c.args.n in
     let bytes = c.args.bytes.now in
     let header = header_of M n bytes c.in_ok-check_log.ensures in
-    let put = c.in_ok-write_header.ensures.1 in (
+    let put : Put (header_bytes M n) c.args.out.now c.write_header.new.out c.in_ok-write_header.field-0 = search (c.in_ok-write_header.ensures) in (
       accepted c.in_ok-check_log.ensures c.if-out-bytes.false,
       log_put M n bytes header c.args.out.now c.write_header.new.out _ put c.if-out-bytes.false c.rewrite_rows.new.out c.rewrite_rows.ensures,
     )

@@ -97,12 +97,15 @@ returns-in_err-join_row g c =
     let fit : (i : ℕ) → get_or bytes i 0 < 256 = λ i. (c.type_inv.log i).fits in
     let reads = cut_reads M g.met.F.Field.laws n _ bytes fit s.at ws f entry.next row long in
     let left = left_within M s t _ step bytes n inv.2 inv.3 in
-    let number : c.in-Some.row ≡ s.row = c.in-Some.ensures.steps.1 ∙ inv.4 in
+    let number = c.in-Some.ensures.steps.1 in
     let e = c.in_err-join_row.field-0.0 in
-    let bad =
-    subst (λ (k : ℕ). (before : List Figured) → Recorded M n before (rec_of c.loop-row.held) → JoinCheck M n (record { 0 = k }) before (given_row (take n ws) f) (Some e)) number
-    (subst (λ (m : ℕ). (before : List Figured) → Recorded M m before (rec_of c.loop-row.held) → JoinCheck M m (record { 0 = c.in-Some.row }) before (given_row (take n ws) f) (Some e))
-    inv.5 c.in_err-join_row.ensures.joins) in
+    let bad : (before : List Figured) → Recorded M n before (rec_of c.loop-row.held) → JoinCheck M n (record { 0 = s.row }) before (given_row (take n ws) f) (Some e) =
+    subst
+    (λ (m : ℕ). (before : List Figured) → Recorded M m before (rec_of c.loop-row.held) → JoinCheck M m (record { 0 = s.row }) before (given_row (take n ws) f) (Some e))
+    inv.5
+    (subst
+    (λ (k : ℕ). (before : List Figured) → Recorded M c.loop-row.held.count before (rec_of c.loop-row.held) → JoinCheck M c.loop-row.held.count (record { 0 = k }) before (given_row (take n ws) f) (Some e))
+    (omega (arith, number, inv.4)) c.in_err-join_row.ensures.joins) in
     let all = inv.6.2 (Some e) [] (row-kept_out M n s.row inv.6.0 bytes s.at left _ f entry.next reads e (bad inv.6.0 inv.6.1)) in
     let p = err_from_is_err_and c.from_residual-in_err-join_row.result c.from_residual-in_err-join_row.ensures.1 in
     rw (p.1, p.2)
@@ -129,12 +132,16 @@ loop-row-preserved g c =
     let fit : (i : ℕ) → get_or bytes i 0 < 256 = λ i. (c.type_inv.log i).fits in
     let reads = cut_reads M g.met.F.Field.laws n _ bytes fit s.at ws f entry.next row long in
     let left = left_within M s t _ step bytes n inv.2 inv.3 in
-    let number : c.in-Some.row ≡ s.row = c.in-Some.ensures.steps.1 ∙ inv.4 in
+    let number = c.in-Some.ensures.steps.1 in
     let G = given_row (take n ws) f in
-    let joined =
-    subst (λ (k : ℕ). (before : List Figured) → Recorded M n before (rec_of c.loop-row.held) → JoinCheck M n (record { 0 = k }) before G None × Recorded M n (G ∷ before) (rec_of c.join_row.new.held)) number
-    (subst (λ (m : ℕ). (before : List Figured) → Recorded M m before (rec_of c.loop-row.held) → JoinCheck M m (record { 0 = c.in-Some.row }) before G None × Recorded M m (G ∷ before) (rec_of c.join_row.new.held))
-    inv.5 c.in_ok-join_row.ensures.joins) inv.6.0 inv.6.1 in
+    let joined : JoinCheck M n (record { 0 = s.row }) inv.6.0 G None × Recorded M n (G ∷ inv.6.0) (rec_of c.join_row.new.held) =
+    subst
+    (λ (m : ℕ). (before : List Figured) → Recorded M m before (rec_of c.loop-row.held) → JoinCheck M m (record { 0 = s.row }) before G None × Recorded M m (G ∷ before) (rec_of c.join_row.new.held))
+    inv.5
+    (subst
+    (λ (k : ℕ). (before : List Figured) → Recorded M c.loop-row.held.count before (rec_of c.loop-row.held) → JoinCheck M c.loop-row.held.count (record { 0 = k }) before G None × Recorded M c.loop-row.held.count (G ∷ before) (rec_of c.join_row.new.held))
+    (omega (arith, number, inv.4)) c.in_ok-join_row.ensures.joins)
+    inv.6.0 inv.6.1 in
     let goes = c.in-Some.ensures.goes in (
       goes.keeps,
       (goes.on inv.1).1,

@@ -3,7 +3,7 @@ use Rattle.std.proofs.Common.{◌≡◌, ◌<◌, ◌++◌, length, take, drop, 
 use Rattle.std.proofs.lemmas.List.{append-nil, drop_all, length-take-le, take_all}
 use Rattle.field.specs.Sums.{weights_of}
 use Rattle.member_map.specs.Maps.{map_length_lem}
-use Rattle.answer_log.specs.Rows.{map_bytes}
+use Rattle.answer_log.specs.Rows.{map_byte_lem, map_bytes}
 use Rattle.answer_log.proofs.Bits.{map-bytes-length, map-bytes-at}
 use Rattle.buffer.proofs.Fronts.{byte_put}
 use Rattle.answer_log.proofs.parts.Row.write_map.Goals as goal
@@ -18,7 +18,8 @@ loop-k-preserved g c =
     let size : length o ≡ c.map_length.result = length-take-le c.map_length.result c.args.out.now (omega (arith, c.map_length.ensures)) in
     let inside : k < map_length_lem n = omega (arith, c.map_length.ensures) in
     let long : k < length map = omega (arith, map-bytes-length (weights_of ws) n) in
-    ap₂ (λ xs b. set xs k b) c.loop-k.invariant (c.map_byte.ensures ∙ sym (map-bytes-at (weights_of ws) n k inside))
+    let byte : c.map_byte.result ≡ map_byte_lem (weights_of ws) k = search (c.map_byte.ensures) in
+    ap₂ (λ xs b. set xs k b) c.loop-k.invariant (byte ∙ sym (map-bytes-at (weights_of ws) n k inside))
     ∙ byte_put map o k long c.loop-k-test.true
 
 pub returns : goal.returns

@@ -1,5 +1,5 @@
 -- Answers for `read`: the figure, and the row.
-use Rattle.std.proofs.Common.{◌+◌, ◌≤◌, length, ap, ◌∙◌, ap₂, arith}
+use Rattle.std.proofs.Common.{◌≡◌, ◌+◌, ◌≤◌, length, ap, ◌∙◌, ap₂, arith}
 use Rattle.field.specs.Bytes.{code_at, width}
 use Rattle.answer_log.specs.Entries.{figure_place, row_length_lem, row_figure, no_figure, accepted}
 use Rattle.answer_log.proofs.reading.RowBytes.read.Goals as goal
@@ -7,7 +7,10 @@ use Rattle.answer_log.proofs.reading.RowBytes.read.Goals as goal
 pub returns-then-figure-size : goal.returns-then-figure-size
 unfolding row_figure
 returns-then-figure-size g c =
-    let figure = c.decode-figure.ensures ∙ ap (code_at g.F.Field.model c.args.self.now.bytes.now) c.in_ok-place.ensures.1 in
+    let M = g.F.Field.model in
+    let bs = c.args.self.now.bytes.now in
+    let read : c.decode-figure.result.0 ≡ code_at M bs c.in_ok-place.place = search (c.decode-figure.ensures) in
+    let figure = read ∙ ap (code_at M bs) c.in_ok-place.ensures.1 in
     no_figure c.in_ok-weights.ensures.0 (omega (arith, c.size.ensures, figure))
 
 pub overflow_add-next : goal.overflow_add-next
@@ -21,7 +24,10 @@ overflow_add-next g c =
 pub returns : goal.returns
 unfolding row_figure row_length_lem
 returns g c =
-    let figure = c.decode-figure.ensures ∙ ap (code_at g.F.Field.model c.args.self.now.bytes.now) c.in_ok-place.ensures.1 in
+    let M = g.F.Field.model in
+    let bs = c.args.self.now.bytes.now in
+    let read : c.decode-figure.result.0 ≡ code_at M bs c.in_ok-place.place = search (c.decode-figure.ensures) in
+    let figure = read ∙ ap (code_at M bs) c.in_ok-place.ensures.1 in
     let fine = c.in_ok-weights.ensures in
     record {
       check = accepted fine.0 (omega (arith, c.size.ensures, figure));

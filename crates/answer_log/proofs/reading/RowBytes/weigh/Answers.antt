@@ -14,9 +14,10 @@ returns-then-is_plain g c =
     let n = c.args.self.now.count in
     let ws = c.in_ok-weights.weights in
     let fine = c.in_ok-weights.ensures in
+    let tested : c.is_plain.result ≡ plain (weights_of ws) (length ws) = search (c.is_plain.ensures) in
     needless_weights c.requires fine.1 (is_weighted bs _ c.mark.ensures c.if-mark-eq1.true)
     (sym (plain_read g.F.Field.model n bs (weights_of ws) (length ws) (omega (arith, c.requires.named.mapped.count, fine.0)) fine.2 fine.3)
-    ∙ sym c.is_plain.ensures ∙ c.if-is_plain.true)
+    ∙ sym tested ∙ c.if-is_plain.true)
 
 pub returns : goal.returns
 returns g c =
@@ -28,8 +29,9 @@ returns g c =
     let needed : weighted bs ≡ true → plain (row_weight M n bs) n ≡ false = λ e.
     elim c.else-mark-eq1.branch [
       | else-mark-eq1-via-then-mark-eq1+else-is_plain v ↦
+          let tested : v.is_plain.result ≡ plain (weights_of ws) (length ws) = search (v.is_plain.ensures) in
           sym (plain_read M n bs (weights_of ws) (length ws) (omega (arith, c.requires.named.mapped.count, fine.0)) fine.2 fine.3)
-          ∙ sym v.is_plain.ensures ∙ v.if-is_plain.false
+          ∙ sym tested ∙ v.if-is_plain.false
       | else-mark-eq1-via-else-mark-eq1 v ↦
           absurd (both_ways _ (not_weighted bs _ c.mark.ensures v.if-mark-eq1.false) e)
     ]

@@ -57,7 +57,8 @@ returns-in-Fixed g c =
     let figure : f < M.size = omega arith in
     let coded : CodedRow M r.count (given_row ws f) = (row-codes M _ _ passed, figure) in
     let fixes = fixed-row M L r.count (rec_of r) R (given_row ws f) coded _ c.in-Fixed.ensures in
-    record { admitted = kept passed figure fixes refl (kept-adds M L r.count (rec_of r) (given_row ws f) fixes); count = refl }
+    let adds = kept-adds M L r.count (rec_of r) (given_row ws f) fixes in
+    record { admitted = search (kept, passed, figure, fixes, adds); count = refl }
 
 pub returns-in-Pinning : goal.returns-in-Pinning
 returns-in-Pinning g c =

@@ -1,4 +1,4 @@
-use Rattle.std.proofs.Common.{◌≡◌, true, cond, List, length, is_ok, vec_items, sym, refl, ap, ◌∙◌, subst, arith}
+use Rattle.std.proofs.Common.{◌≡◌, true, List, length, is_ok, vec_items, sym, refl, subst, arith}
 use lib.ListN.{length-map}
 use Rattle.std.specs.List.{insert}
 use Rattle.echelon.specs.Reduced.{Same}
@@ -49,8 +49,8 @@ rows_after g c =
     let rows₁ = vec_items c.clear_rows.new.rows in
     let size : length (rec_of r) ≡ length (vec_items r.rows) = rows-length _ in
     let size₁ : length (all_pivoted rows₁) ≡ length rows₁ = rows-length _ in
-    let items : vec_items c.insert.new.self ≡ insert rows₁ c.args.k.0 c.args.fresh =
-    c.insert.ensures.items ∙ ap (λ b. cond b (insert rows₁ c.args.k.0 c.args.fresh) rows₁) (went_in g c) in
+    let inserted = rw (went_in g c) at c.insert.ensures.items in
+    let items : vec_items c.insert.new.self ≡ insert rows₁ c.args.k.0 c.args.fresh = search (inserted) in
     subst (λ (l : List RecordRow). Same r.count (joined M (pivoted c.args.fresh) c.args.k.0 (rec_of r)) (all_pivoted l)) (sym items)
     (same-joined M r.count c.args.fresh (vec_items r.rows) rows₁
     (omega (arith, c.clear_rows.ensures.len, c.clear_rows.new.rows.ok.0, r.rows.ok.0))

@@ -72,9 +72,10 @@ returns g c =
     let j = c.unwrap-free.result.0 in
     let other = chosen _ _ _ _ c.unwrap-free.ensures c.lowest_other.ensures in
     let weight : (m : ℕ) → (at (rec_of r) k).weights m ≡ (pivoted x).weights m = λ m. ap (λ p. p.weights m) is in
+    let difference : c.minus.result.0 ≡ minus M x.row.figure.0 c.args.element.0 = search (c.minus.ensures.is) in
     let factor : c.mul.result.0 ≡ M.times (minus M (at (rec_of r) k).figure c.args.element.0) (M.inverse ((at (rec_of r) k).weights j)) =
     c.mul.ensures.is
-    ∙ ap₂ M.times (c.minus.ensures.is ∙ ap (λ p. minus M p.figure c.args.element.0) (sym is)) (c.inv-share.ensures.is ∙ ap M.inverse (sym (weight j))) in
+    ∙ ap₂ M.times (difference ∙ ap (λ p. minus M p.figure c.args.element.0) (sym is)) (c.inv-share.ensures.is ∙ ap M.inverse (sym (weight j))) in
     let led =
     leads-pivot M g.met.F.Field.laws r.count (rec_of r) (reduced_of r) k j c.args.member.0 c.args.element.0 c.mul.result.0
     here.below member other.0 (λ z. other.1 (z ∙ sym own)) (λ z. other.2 (sym (weight j) ∙ z))

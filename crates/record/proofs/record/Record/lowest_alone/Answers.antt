@@ -1,7 +1,7 @@
 use Rattle.std.proofs.Common.{◌≡◌, ℕ, ◌≤◌, not, Option, MatchOption, length, get_or, sym, ap, ◌∙◌, subst, arith, below_more}
 use lib.ListN.{length-map}
 use Rattle.server.specs.Checks.{Lowest}
-use Rattle.echelon.specs.Reduced.{Pivoted}
+use Rattle.echelon.specs.Reduced.{at}
 use Rattle.refusal.specs.declared.Member.{Member}
 use Rattle.record.specs.Rows.{pivoted}
 use Rattle.record.specs.Records.{rec_of}
@@ -30,7 +30,8 @@ returns-then-is_none g c =
     let found =
     alone-found M L r.count (rec_of r) R r.none_alone e c.requires.pivot c.requires.coded c.requires.own c.requires.others
     a (pivoted x) here.below here.is (none_told _ _ _ (c.is_none.ensures ∙ ap not c.if-is_none.true) c.lowest_other_without-other.ensures) in
-    subst (λ (y : Pivoted). Lowest (AloneWith M r.count (rec_of r) e) y.pivot) here.is
+    let pivot : (at (rec_of r) a).pivot ≡ x.pivot.0 = ap (λ y. y.pivot) here.is in
+    subst (Lowest (AloneWith M r.count (rec_of r) e)) (omega (arith, pivot))
     (row_is_lowest M L r.count (rec_of r) R r.none_alone e c.requires.pivot c.requires.coded c.requires.own c.requires.others a here.below found c.loop-row.invariant)
 
 pub loop-row-preserved : goal.loop-row-preserved

@@ -8,19 +8,19 @@ use Rattle.record.proofs.Views.{reduced_of}
 use Rattle.record.proofs.record.Record.witness.Goals as goal
 
 pub returns-then-member-self : goal.returns-then-member-self
-returns-then-member-self g c = (no_such_member c.if-member-self.true, refl)
+returns-then-member-self g c = (no_such_member (omega arith), refl)
 
 pub returns-then-element-size : goal.returns-then-element-size
-returns-then-element-size g c = (not_an_element c.if-member-self.false (omega arith), refl)
+returns-then-element-size g c = (not_an_element (omega arith) (omega arith), refl)
 
 pub returns-then-out-self : goal.returns-then-out-self
-returns-then-out-self g c = (wrong_length c.if-member-self.false (omega arith) c.if-out-self.true, refl)
+returns-then-out-self g c = (wrong_length (omega arith) (omega arith) c.if-out-self.true, refl)
 
 pub returns : goal.returns
 returns g c =
     let M = g.F.Field.model in
     let r = c.args.self.now in
-    let inside = c.if-member-self.false in
+    let inside : c.args.member.0 < r.count = omega arith in
     let element : c.args.element.0 < M.size = omega arith in
     let w = weights_of c.fill.new.out in
     let made : Witness M r.count (rec_of r) c.args.member.0 c.args.element.0 w =

@@ -1,8 +1,8 @@
 use Rattle.std.proofs.Common.{◌≡◌, ℕ, ◌≢◌, get_or, set, sym, refl, ◌∙◌, subst, arith}
 use native.Mathlib.Decide.{ℕ_discrete}
 use Rattle.echelon.specs.Reduced.{Pivoted, at, figured}
-use Rattle.echelon.specs.Elimination.{pivot_cleared}
-use Rattle.record.specs.Rows.{pivoted, CodedRow}
+use Rattle.echelon.specs.Elimination.{cleared, pivot_cleared}
+use Rattle.record.specs.Rows.{figured_row, pivoted, SameRow, CodedRow}
 use Rattle.record.specs.Shapes.{all_pivoted}
 use Rattle.record.specs.Judged.{SamePivoted}
 use Rattle.record.specs.declared.rows.RecordRow.{RecordRow}
@@ -20,12 +20,16 @@ pub clear-requires : goal.clear-requires
 clear-requires g c =
     let M = g.F.Field.model in
     let a = c.loop-row.row-index in
+    let was : CodedRow M c.args.n (figured (at (all_pivoted c.deref_mut-row-items.result.now) a)) =
+    subst (λ l. CodedRow M c.args.n (figured (at (all_pivoted l) a))) (sym c.deref_mut-row-items.ensures.value)
+    (c.requires.coded a (omega (arith, c.deref_mut-row-items.ensures.len))) in
+    let own : CodedRow M c.args.n (figured (pivoted (get_or c.loop-row.row-items a no_record_row))) =
+    subst (λ (p : Pivoted). CodedRow M c.args.n (figured p)) (untouched g (goal.at.clear-requires g c).At-loop-row) was in
     record {
-      few = c.requires.few;
-      pivot = c.requires.pivot;
-      coded = subst (λ (p : Pivoted). CodedRow M c.args.n (figured p)) (untouched g (goal.at.clear-requires g c).At-loop-row)
-          (subst (λ l. CodedRow M c.args.n (figured (at (all_pivoted l) a))) (sym c.deref_mut-row-items.ensures.value) (c.requires.coded a (omega (arith, c.deref_mut-row-items.ensures.len))));
-      by_coded = c.requires.by_coded;
+      few = omega arith;
+      pivot = omega arith;
+      coded = grind (arith, own);
+      by_coded = grind (arith, c.requires.by_coded);
       by_lowest = c.requires.by_lowest;
     }
 
@@ -39,9 +43,10 @@ loop-row-preserved g c =
     let y : RecordRow = record { pivot = x.pivot; row = c.clear.new.self } in
     let before = all_pivoted c.deref_mut-row-items.result.now in
     let is = untouched g (goal.at.loop-row-preserved g c).At-loop-row in
+    let whole : SameRow c.args.n (figured_row c.clear.new.self) (cleared M e (figured (pivoted x))) = search (c.clear.ensures.is) in
     let here : SamePivoted c.args.n (at (all_pivoted (set items a y)) a) (pivot_cleared M e (at before a)) =
     subst (λ (p : Pivoted). SamePivoted c.args.n p (pivot_cleared M e (at before a))) (sym (set_here items a y (omega arith)))
-    (cleared-row M c.args.n e (at before a) x y is refl c.clear.ensures.is) in (
+    (cleared-row M c.args.n e (at before a) x y is refl whole) in (
       λ b h.
           elim (ℕ_discrete b a) [
             | yes same ↦ subst (λ (k : ℕ). SamePivoted c.args.n (at (all_pivoted (set items a y)) k) (pivot_cleared M e (at before k))) (sym same) here

@@ -22,7 +22,7 @@ returns-then-factor-eq0 g c =
     let same : (m : ℕ) → m < n → row m ≡ w m =
     λ m h. less_none M L n _ _ _ (own.0 m h) (own.0 _ c.requires.pivot) (other.0 m h) (inl c.if-factor-eq0.true) in
     option_told _ _ _ _ c.lowest_other.result (λ none m h ne. same m h ∙ none m h ne)
-    (λ p told. (told.0, told.1, λ e. told.2 (sym (same p.0 told.0) ∙ e))) c.lowest_other.ensures
+    (λ p told. (told.0, told.1, (λ e. told.2 (sym (same p.0 told.0) ∙ e)), λ m h ne. same m (omega arith) ∙ told.3 m h ne)) c.lowest_other.ensures
 
 pub returns : goal.returns
 returns g c =
@@ -49,12 +49,16 @@ returns g c =
     let first =
     first_from_Range _ _ _ _ (λ m. sums m ≢ 0) (λ m. sums m ≡ 0) c.find.ensures.ran
     (λ x q k. search (rules, tests)) (λ x q k. search (rules, tests)) in
-    let found : MatchOption c.map.result ((m : ℕ) → p + 1 ≤ m → m < n → sums m ≡ 0) (λ i. (p + 1 ≤ i.0) × (i.0 < n) × (sums i.0 ≢ 0)) =
+    let found : MatchOption c.map.result ((m : ℕ) → p + 1 ≤ m → m < n → sums m ≡ 0) (λ i. (p + 1 ≤ i.0) × (i.0 < n) × (sums i.0 ≢ 0) × ((m : ℕ) → p + 1 ≤ m → m < i.0 → sums m ≡ 0)) =
     search (rules, first) in
-    option_told _ _ _ _ c.map.result
-    (λ none m h ne.
+    let none_to : (i : ℕ) → i ≤ n → ((m : ℕ) → p + 1 ≤ m → m < i → sums m ≡ 0) → (m : ℕ) → m < i → m ≢ p → row m ≡ 0 =
+    λ i top none m h ne.
+    let inside : m < n = omega arith in
     elim (dec_lt m p) [
-      | yes b ↦ low m h b
-      | no b ↦ sym (made m h) ∙ none m (omega arith) h
-    ])
-    (λ i told. (told.1, (let up = told.0 in λ e. omega arith), λ e. told.2 (made i.0 told.1 ∙ e))) found
+      | yes b ↦ low m inside b
+      | no b ↦ sym (made m inside) ∙ none m (omega arith) h
+    ]
+    in
+    option_told _ _ _ _ c.map.result (λ none m h ne. none_to n (omega arith) none m h ne)
+    (λ i told.
+    (told.1, (let up = told.0 in λ e. omega arith), (λ e. told.2 (made i.0 told.1 ∙ e)), λ m h ne. none_to i.0 (omega arith) told.3 m h ne)) found

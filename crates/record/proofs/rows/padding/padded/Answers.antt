@@ -1,3 +1,4 @@
+use Rattle.std.proofs.Common.{◌≡◌, min, length, arith}
 use Rattle.record.proofs.Padding.{padded_front, padded_rest, padded_each}
 use Rattle.record.proofs.rows.padding.padded.Goals as goal
 
@@ -5,7 +6,7 @@ pub returns : goal.returns
 returns c =
     let vs = c.args.weights.now in
     let few = c.min-few.result in
-    let is = c.min-few.ensures in
+    let is : few ≡ min (length vs) 64 = omega (arith, c.min-few.ensures) in
     let copied = c.copy_from_slice.ensures.after in
     record {
       front = λ h. padded_front vs few is _ copied h few;
