@@ -70,4 +70,4 @@ returns-clause-law g c =
     let figure : c.row_sum-figure.result.0 ≡ sum M (length T) (weights_of (take (length T) row.weights)) (value_at T) =
     of_the_row ∙ ap (λ l. sum M (length T) (weights_of l) (value_at T)) (cut g here) in
     answered-steps M g.met.S.Over.Field.laws T x _ row c.args.number _ c.row_sum-figure.result.0
-        c.in_ok-row.ensures.1 c.in_ok-row.ensures.0 (granted g here).0 figure (went_in g here).1 refl refl (omega arith)
+    c.in_ok-row.ensures.1 c.in_ok-row.ensures.0 (granted g here).0 figure (went_in g here).1 refl refl (omega arith)

@@ -1,4 +1,4 @@
-use Rattle.std.proofs.Common.{◌≡◌, ℕ, ◌+◌, ◌<◌, ◌≤◌, List, length, take, Some, None, sym, refl, ap, ◌∙◌, subst, arith}
+use Rattle.std.proofs.Common.{◌≡◌, ℕ, ◌<◌, ◌≤◌, List, length, take, Some, None, sym, refl, ap, ◌∙◌, subst, arith}
 use Rattle.std.proofs.lemmas.Result.{err_from_is_err_and}
 use Rattle.field.specs.Sums.{weights_of}
 use Rattle.field.specs.declared.Element.{Element}
@@ -118,4 +118,4 @@ returns-clause-law g c =
     let left : x.issued < 65535 = let ne = c.if-self.false in omega arith in
     let here = (goal.at.returns-clause-law g c).After-padded in
     granted-steps M L T x ws (sym c.is_some.ensures ∙ c.if-is_some.false) left _ _ _ _ _ _
-        (passed_row g here) (free_row g here) (search) (search) (cut_row g here) (search)
+    (passed_row g here) (free_row g here) (search) (search) (cut_row g here) (search)
