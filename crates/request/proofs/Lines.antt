@@ -1,12 +1,13 @@
 -- A line, by what it was read as: how the calls that it makes come under the law of a line. Assumes nothing.
-use Rattle.std.proofs.Common.{◌≡◌, ℕ, List, [], length, Some, None, Ok, Err, sym, ap, ◌∙◌, subst}
+use Rattle.std.proofs.Common.{◌≡◌, ℕ, List, [], length, Some, None, Ok, Err, sym, ap, ◌∙◌}
 use Rattle.refusal.specs.declared.Member.{Member}
 use Rattle.field.specs.declared.Field as field
 use Rattle.server.specs.declared.Server as server
 use Rattle.field.specs.Model.{FieldModel}
 use Rattle.field.specs.declared.Element.{Element}
 use Rattle.server.specs.Tables.{value_at}
-use Rattle.history.specs.Events.{Reply, witnesses, takes_back, refused}
+use Rattle.echelon.specs.Rows.{Figured}
+use Rattle.history.specs.Events.{Reply, witnesses, refused}
 use Rattle.session.specs.Views.{Steps}
 use Rattle.session.specs.declared.session.Session.{Session}
 use Rattle.query.specs.declared.items.Weights.{Weights}
@@ -16,9 +17,7 @@ use Rattle.query.specs.declared.lines.Request.TheVariants.{Ask, Try, Witness, Re
 use Rattle.query.specs.Lines.{limits, reading}
 use Rattle.query.specs.Refusals.{line_refusal}
 use Rattle.request.specs.Requests.{row, answered_row, Asked, Tried, Handled, ask, try, witness, remark, faulty, served}
-use Rattle.request.specs.declared.outcome.Outcome.{Outcome}
-use Rattle.request.specs.declared.outcome.Outcome.TheVariants.{Granted}
-use Rattle.request.specs.Carried.{Leads, CarriedOut, ReadAs}
+use Rattle.request.specs.Carried.{Leads}
 
 pub read_as :
     (M : FieldModel) (line : List ℕ) {m n : ℕ} {q q' : Request} → m ≡ n → Ok q ≡ reading (limits M m) line → q ≡ q'
@@ -42,19 +41,12 @@ module _ {S V : Type 0} {GS : server.Ghosts S V} {GV : field.Ghosts V} (M : Fiel
   asked-line w r is leads s h H = let p = leads s h H in (p.0, served (Ask w) r p.0 is (ask w r p.0 p.1), p.2)
 
   pub tried-line :
-      (w : Weights) (r : Reply) → reading (limits M (length T)) line ≡ Ok (Try w)
-      → Leads M T x x' (λ s h. Tried M (length T) (value_at T) s h (row (length T) w) r)
-      → Leads M T x x' (λ s h. Handled M (length T) (value_at T) s h line (Some r) [])
-  tried-line w r is leads s h H = let p = leads s h H in (p.0, served (Try w) r p.0 is (try w r p.0 p.1), p.2)
-
-  -- where a row that was tried was withdrawn, `Granted` comes of the line
-  module _ (o : Outcome) (w : Weights) (granted : Granted ≡ o) (is : reading (limits M (length T)) line ≡ Ok (Try w)) where
-    pub granted_read : ReadAs M (length T) line (Ok o)
-    granted_read = subst (λ (q : Outcome). ReadAs M (length T) line (Ok q)) granted (w, is)
-
-    pub granted-line :
-        Leads M T x x' (λ s h. Tried M (length T) (value_at T) s h (row (length T) w) takes_back) → CarriedOut M T x line (Ok o) x'
-    granted-line leads = subst (λ (q : Outcome). CarriedOut M T x line (Ok q) x') granted (tried-line w takes_back is leads)
+      (w : Weights) (r told : Reply) (rows : List Figured) → reading (limits M (length T)) line ≡ Ok (Try w)
+      → Leads M T x x' (λ s h. Tried M (length T) (value_at T) s h (row (length T) w) r) → r ≡ told → [] ≡ rows
+      → Leads M T x x' (λ s h. Handled M (length T) (value_at T) s h line (Some told) rows)
+  tried-line w r told rows is leads same none s h H =
+      let p = leads s h H in
+      (p.0, rw (← same, ← none) (served (Try w) r p.0 is (try w r p.0 p.1)), p.2)
 
   pub witness-line :
       (i : Member) (a : Element) (r : Reply) → reading (limits M (length T)) line ≡ Ok (Witness i a)

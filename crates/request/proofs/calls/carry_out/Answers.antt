@@ -6,7 +6,7 @@ use Rattle.session.specs.Views.{Steps}
 use Rattle.query.specs.Lines.{limits, reading}
 use Rattle.request.specs.Requests.{Asked, Tried}
 use Rattle.request.specs.Carried.{Leads}
-use Rattle.request.proofs.Lines.{read_as, remark-line, faulty-line, asked-line, tried-line, granted_read, granted-line, witness-line}
+use Rattle.request.proofs.Lines.{read_as, remark-line, faulty-line, asked-line, tried-line, witness-line}
 use Rattle.request.proofs.calls.carry_out.Goals as goal
 
 pub returns-in_err-weights : goal.returns-in_err-weights
@@ -76,7 +76,7 @@ returns-in_err-attempt-in-Try g c =
     let at = c.in_err-attempt-in-Try.ensures in
     let leads = subst (λ (k : ℕ). Leads M T x x' (λ s h. Tried M (length T) (value_at T) s h (take k w.0) (refused e))) size at.law in
     let p = err_from_is_err_and c.from_residual-in_err-attempt-in-Try.result c.from_residual-in_err-attempt-in-Try.ensures.1 in
-    rw (p.1, p.2) (record { server = at.server; read = (_, is); law = tried-line M T x x' line w (refused e) is leads })
+    rw (p.1, p.2) (record { server = at.server; read = (_, is); law = tried-line M T x x' line w (refused e) _ _ is leads refl refl })
 
 pub returns-in_ok-attempt-in-Try : goal.returns-in_ok-attempt-in-Try
 returns-in_ok-attempt-in-Try g c =
@@ -90,7 +90,7 @@ returns-in_ok-attempt-in-Try g c =
     let size : c.count-n.result ≡ length T = omega (arith, c.count-n.ensures.members) in
     let at = c.in_ok-attempt-in-Try.ensures in
     let leads = subst (λ (k : ℕ). Leads M T x x' (λ s h. Tried M (length T) (value_at T) s h (take k w.0) takes_back)) size at.law in
-    record { server = at.server; read = granted_read M T x x' line _ w (search) is; law = granted-line M T x x' line _ w (search) is leads }
+    record { server = at.server; read = search (is); law = tried-line M T x x' line w takes_back _ _ is leads (search) (search) }
 
 pub returns-in_err-table-in-Witness : goal.returns-in_err-table-in-Witness
 returns-in_err-table-in-Witness g c =
