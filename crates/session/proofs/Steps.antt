@@ -234,13 +234,14 @@ module _ {S V : Type 0} {GS : server.Ghosts S V} {GV : field.Ghosts V} (M : Fiel
         (refused-steps M L T x (submits ws) (Discloses (OfMember (record { 0 = i })))
         (λ s h H. law.discloses ws i (ready s h H) passed (lowest_pinned_by M L (length T) (given s h) H.codes (rec_of x.record) H.form ws i low)))
 
+    -- the session after it has n permits issued, and the row p open; the last two arguments are its ghost fields
     pub granted-steps :
-        (r : Reply) (sv : S) (n : ℕ) (p : OpenRow) (cp : _) (gp : _) → RowCheck M (length T) ws None
+        (r : Reply) (sv : S) (n : ℕ) (p : OpenRow) (counted : _) (granted : _) → RowCheck M (length T) ws None
         → ((i : ℕ) → PinnedWith M (length T) (rec_of x.record) (weights_of ws) i → ⊥)
         → n ≡ x.issued + 1 → p.permit ≡ x.issued + 1 → take (length T) p.weights ≡ ws → r ≡ permits (x.issued + 1)
-        → Steps M T x (submits ws) r (record { server = sv; «record» = x.record; issued = n; pending = Some p; counted = cp; granted = gp })
-    granted-steps r sv n p cp gp passed free count permit weights told =
-        let x' : Session S V GS GV = record { server = sv; «record» = x.record; issued = n; pending = Some p; counted = cp; granted = gp } in
+        → Steps M T x (submits ws) r (record { server = sv; «record» = x.record; issued = n; pending = Some p; counted = counted; granted = granted })
+    granted-steps r sv n p counted granted passed free count permit weights told =
+        let x' : Session S V GS GV = record { server = sv; «record» = x.record; issued = n; pending = Some p; counted = counted; granted = granted } in
         subst (λ (q : Reply). Steps M T x (submits ws) q x') (sym told)
         (λ s h H. granted_step M L T x x' s h ws p H (none_open none s h H) left passed free refl count refl permit weights)
 

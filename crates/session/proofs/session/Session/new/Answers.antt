@@ -22,7 +22,7 @@ returns g c =
         lawful = begins;
         codes = tt;
         form = subst (ReducedForm M (length T) []) (sym none) (empty_form M (length T));
-        issued_is = refl;
+        issued_is = search;
         open_is = tt;
       };
     }
