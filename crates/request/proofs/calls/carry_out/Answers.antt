@@ -92,20 +92,6 @@ returns-in_ok-attempt-in-Try g c =
     let leads = subst (λ (k : ℕ). Leads M T x x' (λ s h. Tried M (length T) (value_at T) s h (take k w.0) takes_back)) size at.law in
     record { server = at.server; read = search (is); law = tried-line M T x x' line w takes_back _ _ is leads (search) (search) }
 
-pub returns-in_err-table-in-Witness : goal.returns-in_err-table-in-Witness
-returns-in_err-table-in-Witness g c =
-    let M = g.S.Over.Field.model in
-    let x = c.args.session.now in
-    let T = g.S.Server.table x.server in
-    let line = c.args.line.now in
-    let i = c.in-Witness.member in
-    let a = c.in-Witness.element in
-    let e = c.in_err-table-in-Witness.field-0.0 in
-    let is = read_as M line c.count-n.ensures.members c.in_ok-weights.ensures.is c.in-Witness.is in
-    let asked : Steps M T x (witnesses i.0 a.0 (length T)) (refused e) x = search (c.in_err-table-in-Witness.ensures.law) in
-    let p = err_from_is_err_and c.from_residual-in_err-table-in-Witness.result c.from_residual-in_err-table-in-Witness.ensures.1 in
-    rw (p.1, p.2) (record { server = refl; read = (_, is); law = witness-line M T x x line i a (refused e) is asked })
-
 pub returns-in_ok-table-in-Witness : goal.returns-in_ok-table-in-Witness
 returns-in_ok-table-in-Witness g c =
     let M = g.S.Over.Field.model in
@@ -119,3 +105,17 @@ returns-in_ok-table-in-Witness g c =
     let at = c.in_ok-table-in-Witness.ensures in
     let asked : Steps M T x (witnesses i.0 a.0 (length T)) (fills (codes (take (length T) table))) x = search (at.law) in
     record { server = refl; read = ((i, a, is), at.zero); law = witness-line M T x x line i a _ is asked }
+
+pub returns-in_err-table-in-Witness : goal.returns-in_err-table-in-Witness
+returns-in_err-table-in-Witness g c =
+    let M = g.S.Over.Field.model in
+    let x = c.args.session.now in
+    let T = g.S.Server.table x.server in
+    let line = c.args.line.now in
+    let i = c.in-Witness.member in
+    let a = c.in-Witness.element in
+    let e = c.in_err-table-in-Witness.field-0.0 in
+    let is = read_as M line c.count-n.ensures.members c.in_ok-weights.ensures.is c.in-Witness.is in
+    let asked : Steps M T x (witnesses i.0 a.0 (length T)) (refused e) x = search (c.in_err-table-in-Witness.ensures.law) in
+    let p = err_from_is_err_and c.from_residual-in_err-table-in-Witness.result c.from_residual-in_err-table-in-Witness.ensures.1 in
+    rw (p.1, p.2) (record { server = refl; read = (_, is); law = witness-line M T x x line i a (refused e) is asked })
