@@ -6,6 +6,7 @@ use Rattle.server.specs.declared.Server as server
 use Rattle.field.specs.Model.{FieldModel}
 use Rattle.field.specs.declared.Element.{Element}
 use Rattle.server.specs.Tables.{value_at}
+use Rattle.echelon.specs.Rows.{Figured}
 use Rattle.history.specs.Events.{Reply, witnesses, refused}
 use Rattle.session.specs.Views.{Steps}
 use Rattle.session.specs.declared.session.Session.{Session}
@@ -40,10 +41,12 @@ module _ {S V : Type 0} {GS : server.Ghosts S V} {GV : field.Ghosts V} (M : Fiel
   asked-line w r is leads s h H = let p = leads s h H in (p.0, served (Ask w) r p.0 is (ask w r p.0 p.1), p.2)
 
   pub tried-line :
-      (w : Weights) (r : Reply) → reading (limits M (length T)) line ≡ Ok (Try w)
-      → Leads M T x x' (λ s h. Tried M (length T) (value_at T) s h (row (length T) w) r)
-      → Leads M T x x' (λ s h. Handled M (length T) (value_at T) s h line (Some r) [])
-  tried-line w r is leads s h H = let p = leads s h H in (p.0, served (Try w) r p.0 is (try w r p.0 p.1), p.2)
+      (w : Weights) (r told : Reply) (rows : List Figured) → reading (limits M (length T)) line ≡ Ok (Try w)
+      → Leads M T x x' (λ s h. Tried M (length T) (value_at T) s h (row (length T) w) r) → r ≡ told → [] ≡ rows
+      → Leads M T x x' (λ s h. Handled M (length T) (value_at T) s h line (Some told) rows)
+  tried-line w r told rows is leads same none s h H =
+      let p = leads s h H in
+      (p.0, rw (← same, ← none) (served (Try w) r p.0 is (try w r p.0 p.1)), p.2)
 
   pub witness-line :
       (i : Member) (a : Element) (r : Reply) → reading (limits M (length T)) line ≡ Ok (Witness i a)

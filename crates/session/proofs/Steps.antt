@@ -28,7 +28,7 @@ use Rattle.record.specs.Records.{rec_of}
 use Rattle.record.proofs.Verdict.{row-codes}
 use Rattle.history.proofs.ByRecord.{pinned_with, lowest_pinned_by}
 use Rattle.history.specs.Events as events
-use Rattle.history.specs.Events.{Start, Event, Call, submits, answers, withdraws, witnesses, permits, gives, takes_back, fills, refuses, refused, issued, open_row, open_after, given}
+use Rattle.history.specs.Events.{Start, Event, Call, Reply, submits, answers, withdraws, witnesses, permits, gives, takes_back, fills, refuses, refused, issued, open_row, open_after, given}
 use Rattle.history.specs.Law as law
 use Rattle.history.specs.Law.{PinnedBy, Ready, Due, goes_on}
 use Rattle.session.specs.Views.{SameOpen, Holds, Steps}
@@ -183,13 +183,13 @@ module _ {S V : Type 0} {GS : server.Ghosts S V} {GV : field.Ghosts V} (M : Fiel
 
   module _ (x' : Session S V GS GV) (p : OpenRow) where
     pub answered-steps :
-        (k f : ℕ) → p.permit ≡ k → x.pending ≡ Some p
+        (k v f : ℕ) → p.permit ≡ k → x.pending ≡ Some p
         → RowCheck M (length T) (take (length T) p.weights) None → f ≡ sum M (length T) (weights_of (take (length T) p.weights)) (value_at T)
         → Adds M (length T) (rec_of x.record) (given_row (take (length T) p.weights) f) (rec_of x'.record)
-        → x'.issued ≡ x.issued → x'.pending ≡ None → Steps M T x (answers k) (gives f) x'
-    answered-steps k f same pending passed figure adds count none =
-        subst (λ (j : ℕ). Steps M T x (answers j) (gives f) x') same
-        (λ s h H. answered_step M L T x x' s h p f H pending passed figure adds count none)
+        → x'.issued ≡ x.issued → x'.pending ≡ None → v ≡ f → Steps M T x (answers k) (gives v) x'
+    answered-steps k v f same pending passed figure adds count none told =
+        subst (λ (u : ℕ). Steps M T x (answers k) (gives u) x') (sym told)
+        (subst (λ (j : ℕ). Steps M T x (answers j) (gives f) x') same (λ s h H. answered_step M L T x x' s h p f H pending passed figure adds count none))
 
     pub withdrawn-steps :
         (k : ℕ) → p.permit ≡ k → x.pending ≡ Some p → x'.record ≡ x.record → x'.issued ≡ x.issued → x'.pending ≡ None
@@ -227,19 +227,23 @@ module _ {S V : Type 0} {GS : server.Ghosts S V} {GV : field.Ghosts V} (M : Fiel
     submit_bad_steps e fails = refused-steps M L T x (submits ws) e (λ s h H. law.bad_row ws e (ready s h H) fails)
 
     pub submit_disclosing_steps :
-        (i : ℕ) → RowCheck M (length T) ws None → Lowest (PinnedWith M (length T) (rec_of x.record) (weights_of ws)) i
-        → Steps M T x (submits ws) (refused (Discloses (OfMember (record { 0 = i })))) x
-    submit_disclosing_steps i passed low =
-        refused-steps M L T x (submits ws) (Discloses (OfMember (record { 0 = i })))
-        (λ s h H. law.discloses ws i (ready s h H) passed (lowest_pinned_by M L (length T) (given s h) H.codes (rec_of x.record) H.form ws i low))
+        (r : Reply) (i : ℕ) → RowCheck M (length T) ws None → Lowest (PinnedWith M (length T) (rec_of x.record) (weights_of ws)) i
+        → r ≡ refused (Discloses (OfMember (record { 0 = i }))) → Steps M T x (submits ws) r x
+    submit_disclosing_steps r i passed low told =
+        subst (λ (q : Reply). Steps M T x (submits ws) q x) (sym told)
+        (refused-steps M L T x (submits ws) (Discloses (OfMember (record { 0 = i })))
+        (λ s h H. law.discloses ws i (ready s h H) passed (lowest_pinned_by M L (length T) (given s h) H.codes (rec_of x.record) H.form ws i low)))
 
+    -- the session after it has n permits issued, and the row p open; the last two arguments are its ghost fields
     pub granted-steps :
-        (x' : Session S V GS GV) (p : OpenRow) → RowCheck M (length T) ws None
+        (r : Reply) (sv : S) (n : ℕ) (p : OpenRow) (counted : _) (granted : _) → RowCheck M (length T) ws None
         → ((i : ℕ) → PinnedWith M (length T) (rec_of x.record) (weights_of ws) i → ⊥)
-        → x'.record ≡ x.record → x'.issued ≡ x.issued + 1 → x'.pending ≡ Some p → p.permit ≡ x.issued + 1 → take (length T) p.weights ≡ ws
-        → Steps M T x (submits ws) (permits (x.issued + 1)) x'
-    granted-steps x' p passed free rec-same count pending permit weights s h H =
-        granted_step M L T x x' s h ws p H (none_open none s h H) left passed free rec-same count pending permit weights
+        → n ≡ x.issued + 1 → p.permit ≡ x.issued + 1 → take (length T) p.weights ≡ ws → r ≡ permits (x.issued + 1)
+        → Steps M T x (submits ws) r (record { server = sv; «record» = x.record; issued = n; pending = Some p; counted = counted; granted = granted })
+    granted-steps r sv n p counted granted passed free count permit weights told =
+        let x' : Session S V GS GV = record { server = sv; «record» = x.record; issued = n; pending = Some p; counted = counted; granted = granted } in
+        subst (λ (q : Reply). Steps M T x (submits ws) q x') (sym told)
+        (λ s h H. granted_step M L T x x' s h ws p H (none_open none s h H) left passed free refl count refl permit weights)
 
 -- a row that is judged to pin nobody
 pub judged-free_of :

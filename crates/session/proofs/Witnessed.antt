@@ -8,7 +8,7 @@ use Rattle.field.specs.Sums.{Codes, weights_of}
 use Rattle.field.specs.declared.Element.{Element}
 use Rattle.server.specs.Tables.{codes}
 use Rattle.echelon.specs.Rows.{Fits}
-use Rattle.echelon.specs.Reduced.{all_figured}
+use Rattle.echelon.specs.Reduced.{Pivoted, all_figured}
 use Rattle.echelon.specs.Witness.{Witness}
 use Rattle.record.specs.Checks.{WitnessCheck, no_such_member, not_an_element, wrong_length, accepted}
 use Rattle.record.specs.Records.{rec_of}
@@ -20,13 +20,17 @@ use Rattle.session.proofs.Steps.{witness-refused-steps, witness_filled_steps}
 pub buffer-length : (M : FieldModel) (n i a l : ℕ) → WitnessCheck M n i a l None → l ≡ n
 buffer-length M n i a l (accepted h k e) = e
 
+-- what the record tells of a buffer that it was to fill for the member i and the element a
+abbrev pub FilledFor : {U : Type 0} → FieldModel → ℕ → List Pivoted → ℕ → ℕ → List Element → List Element → Result U Refusal → Type 0
+FilledFor M n rec i a before after r =
+    MatchResult r
+    (λ z. WitnessCheck M n i a (length before) None × Witness M n rec i a (weights_of after) × (weights_of after i ≡ a)
+    × Codes M n (weights_of after) × Fits M n (all_figured rec) (weights_of after))
+    (λ e. WitnessCheck M n i a (length before) (Some e) × (after ≡ before))
+
 pub witnessed :
     {S V U : Type 0} {GS : server.Ghosts S V} {GV : field.Ghosts V} (M : FieldModel) (L : FieldLaws M) (T : List ℕ) (x : Session S V GS GV) (n i a : ℕ) (before after : List Element) (r : Result U Refusal)
-    → n ≡ length T → length after ≡ length before
-    → MatchResult r
-    (λ z. WitnessCheck M n i a (length before) None × Witness M n (rec_of x.record) i a (weights_of after) × (weights_of after i ≡ a)
-    × Codes M n (weights_of after) × Fits M n (all_figured (rec_of x.record)) (weights_of after))
-    (λ e. WitnessCheck M n i a (length before) (Some e) × (after ≡ before))
+    → n ≡ length T → length after ≡ length before → FilledFor M n (rec_of x.record) i a before after r
     → MatchResult r (λ z. length after ≡ length before) (λ e. after ≡ before)
     × Steps M T x (witnesses i a (length before)) (witness_reply_lem r (codes after)) x
 witnessed M L T x n i a before after (Ok z) count size facts =

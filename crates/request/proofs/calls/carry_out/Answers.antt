@@ -1,7 +1,8 @@
 use Rattle.std.proofs.Common.{◌≡◌, ℕ, length, take, Err, sym, refl, ap, ◌∙◌, subst, arith}
 use Rattle.std.proofs.lemmas.Result.{err_from_is_err_and}
-use Rattle.server.specs.Tables.{value_at}
-use Rattle.history.specs.Events.{gives, takes_back, refused}
+use Rattle.server.specs.Tables.{value_at, codes}
+use Rattle.history.specs.Events.{witnesses, gives, takes_back, fills, refused}
+use Rattle.session.specs.Views.{Steps}
 use Rattle.query.specs.Lines.{limits, reading}
 use Rattle.request.specs.Requests.{Asked, Tried}
 use Rattle.request.specs.Carried.{Leads}
@@ -40,7 +41,8 @@ returns-in_err-figure-in-Ask g c =
     let is = read_as M line c.count-n.ensures.members c.in_ok-weights.ensures.is c.in-Ask.is in
     let size : c.count-n.result ≡ length T = omega (arith, c.count-n.ensures.members) in
     let at = c.in_err-figure-in-Ask.ensures in
-    let leads = subst (λ (k : ℕ). Leads M T x x' (λ s h. Asked M (length T) (value_at T) s h (take k w.0) (refused e))) size at.law in
+    let asked : Leads M T x x' (λ s h. Asked M (length T) (value_at T) s h (take c.count-n.result w.0) (refused e)) = search (at.law) in
+    let leads = subst (λ (k : ℕ). Leads M T x x' (λ s h. Asked M (length T) (value_at T) s h (take k w.0) (refused e))) size asked in
     let p = err_from_is_err_and c.from_residual-in_err-figure-in-Ask.result c.from_residual-in_err-figure-in-Ask.ensures.1 in
     rw (p.1, p.2) (record { server = at.server; read = (_, is); law = asked-line M T x x' line w (refused e) is leads })
 
@@ -56,7 +58,8 @@ returns-in_ok-figure-in-Ask g c =
     let is = read_as M line c.count-n.ensures.members c.in_ok-weights.ensures.is c.in-Ask.is in
     let size : c.count-n.result ≡ length T = omega (arith, c.count-n.ensures.members) in
     let at = c.in_ok-figure-in-Ask.ensures in
-    let leads = subst (λ (k : ℕ). Leads M T x x' (λ s h. Asked M (length T) (value_at T) s h (take k w.0) (gives v))) size at.law in
+    let asked : Leads M T x x' (λ s h. Asked M (length T) (value_at T) s h (take c.count-n.result w.0) (gives v)) = search (at.law) in
+    let leads = subst (λ (k : ℕ). Leads M T x x' (λ s h. Asked M (length T) (value_at T) s h (take k w.0) (gives v))) size asked in
     record { server = at.server; read = is; law = asked-line M T x x' line w (gives v) is leads }
 
 pub returns-in_err-attempt-in-Try : goal.returns-in_err-attempt-in-Try
@@ -73,7 +76,7 @@ returns-in_err-attempt-in-Try g c =
     let at = c.in_err-attempt-in-Try.ensures in
     let leads = subst (λ (k : ℕ). Leads M T x x' (λ s h. Tried M (length T) (value_at T) s h (take k w.0) (refused e))) size at.law in
     let p = err_from_is_err_and c.from_residual-in_err-attempt-in-Try.result c.from_residual-in_err-attempt-in-Try.ensures.1 in
-    rw (p.1, p.2) (record { server = at.server; read = (_, is); law = tried-line M T x x' line w (refused e) is leads })
+    rw (p.1, p.2) (record { server = at.server; read = (_, is); law = tried-line M T x x' line w (refused e) _ _ is leads refl refl })
 
 pub returns-in_ok-attempt-in-Try : goal.returns-in_ok-attempt-in-Try
 returns-in_ok-attempt-in-Try g c =
@@ -87,18 +90,7 @@ returns-in_ok-attempt-in-Try g c =
     let size : c.count-n.result ≡ length T = omega (arith, c.count-n.ensures.members) in
     let at = c.in_ok-attempt-in-Try.ensures in
     let leads = subst (λ (k : ℕ). Leads M T x x' (λ s h. Tried M (length T) (value_at T) s h (take k w.0) takes_back)) size at.law in
-    record { server = at.server; read = (w, is); law = tried-line M T x x' line w takes_back is leads }
-
-pub returns-in_err-table-in-Witness : goal.returns-in_err-table-in-Witness
-returns-in_err-table-in-Witness g c =
-    let M = g.S.Over.Field.model in
-    let x = c.args.session.now in
-    let T = g.S.Server.table x.server in
-    let line = c.args.line.now in
-    let is = read_as M line c.count-n.ensures.members c.in_ok-weights.ensures.is c.in-Witness.is in
-    let p = err_from_is_err_and c.from_residual-in_err-table-in-Witness.result c.from_residual-in_err-table-in-Witness.ensures.1 in
-    rw (p.1, p.2)
-    (record { server = refl; read = (_, is); law = witness-line M T x x line _ _ _ is c.in_err-table-in-Witness.ensures.law })
+    record { server = at.server; read = search (is); law = tried-line M T x x' line w takes_back _ _ is leads (search) (search) }
 
 pub returns-in_ok-table-in-Witness : goal.returns-in_ok-table-in-Witness
 returns-in_ok-table-in-Witness g c =
@@ -106,6 +98,24 @@ returns-in_ok-table-in-Witness g c =
     let x = c.args.session.now in
     let T = g.S.Server.table x.server in
     let line = c.args.line.now in
+    let i = c.in-Witness.member in
+    let a = c.in-Witness.element in
+    let table = c.in_ok-table-in-Witness.table in
     let is = read_as M line c.count-n.ensures.members c.in_ok-weights.ensures.is c.in-Witness.is in
     let at = c.in_ok-table-in-Witness.ensures in
-    record { server = refl; read = ((_, _, is), at.zero); law = witness-line M T x x line _ _ _ is at.law }
+    let asked : Steps M T x (witnesses i.0 a.0 (length T)) (fills (codes (take (length T) table))) x = search (at.law) in
+    record { server = refl; read = ((i, a, is), at.zero); law = witness-line M T x x line i a _ is asked }
+
+pub returns-in_err-table-in-Witness : goal.returns-in_err-table-in-Witness
+returns-in_err-table-in-Witness g c =
+    let M = g.S.Over.Field.model in
+    let x = c.args.session.now in
+    let T = g.S.Server.table x.server in
+    let line = c.args.line.now in
+    let i = c.in-Witness.member in
+    let a = c.in-Witness.element in
+    let e = c.in_err-table-in-Witness.field-0.0 in
+    let is = read_as M line c.count-n.ensures.members c.in_ok-weights.ensures.is c.in-Witness.is in
+    let asked : Steps M T x (witnesses i.0 a.0 (length T)) (refused e) x = search (c.in_err-table-in-Witness.ensures.law) in
+    let p = err_from_is_err_and c.from_residual-in_err-table-in-Witness.result c.from_residual-in_err-table-in-Witness.ensures.1 in
+    rw (p.1, p.2) (record { server = refl; read = (_, is); law = witness-line M T x x line i a (refused e) is asked })

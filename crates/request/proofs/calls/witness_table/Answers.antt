@@ -1,12 +1,10 @@
 use Rattle.std.proofs.Common.{◌≡◌, ℕ, ◌≤◌, List, length, sym, ◌∙◌, subst, arith}
-use Rattle.std.proofs.lemmas.List.{take_at}
 use Rattle.std.proofs.lemmas.Result.{err_from_is_err_and}
 use Rattle.field.specs.declared.Element.{Element}
 use Rattle.history.specs.Events.{witnesses, fills, refused}
 use Rattle.server.specs.Tables.{codes}
 use Rattle.session.specs.Views.{Steps}
-use Rattle.record.proofs.Padding.{zero_past}
-use Rattle.session.proofs.Padded.{part}
+use Rattle.session.proofs.Padded.{part, front_is, zero_behind}
 use Rattle.request.proofs.calls.witness_table.Goals as goal
 
 pub returns-in_err-witness : goal.returns-in_err-witness
@@ -37,6 +35,8 @@ returns g c =
     let step : Steps M T x (witnesses i a (length T)) (fills (codes c.witness.new.out)) x =
     subst (λ (l : ℕ). Steps M T x (witnesses i a l) (fills (codes c.witness.new.out)) x) size at.law in
     record {
-      zero = zero_past c.witness.new.out (length T) n long;
-      law = subst (λ (ws : List Element). Steps M T x (witnesses i a (length T)) (fills (codes ws)) x) (sym (take_at c.witness.new.out _ (length T) long)) step;
+      zero = zero_behind _ c.witness.new.out n (length T) (search) long;
+      law =
+          subst (λ (ws : List Element). Steps M T x (witnesses i a (length T)) (fills (codes ws)) x)
+          (sym (front_is _ c.witness.new.out n (length T) (search) long)) step;
     }

@@ -1,4 +1,4 @@
-use Rattle.std.proofs.Common.{◌≡◌, ℕ, ◌+◌, List, [], ◌∷◌, length, get_or, take, vec_items, sym, ap, ◌∙◌, subst, ap₂, arith, length-take, take_all}
+use Rattle.std.proofs.Common.{◌≡◌, ℕ, ◌+◌, List, [], ◌∷◌, ◌++◌, length, get_or, take, vec_items, sym, ap, ◌∙◌, subst, ap₂, arith, length-take, take_all}
 use Rattle.std.proofs.lemmas.List.{take_more}
 use Rattle.std.proofs.lemmas.Result.{err_from_is_err_and}
 use Rattle.server.specs.Tables.{value_at}
@@ -64,14 +64,15 @@ loop-call-preserved g c =
     (c.reply_to.ensures.law new_session before stood).1 in
     let count : length (take i calls) ≡ length replies =
     length-take i calls ∙ omega (arith, inv.1, c.loop-call.replies.ok.0, c.loop-call-test.true) in
+    let told : vec_items c.push_reserved.new.self ≡ replies ++ r ∷ [] = search (c.push_reserved.ensures.items) in
     let grown : history (length T₀) (take (i + 1) calls) (vec_items c.push_reserved.new.self) ≡ record { call = call_of call; reply = reply_of (length T₀) r } ∷ before =
-    ap₂ (history (length T₀)) (take_more calls i no_call c.loop-call-test.true) c.push_reserved.ensures.items
+    ap₂ (history (length T₀)) (take_more calls i no_call c.loop-call-test.true) told
     ∙ onto_more (length T₀) [] (take i calls) replies call r count in (
       c.reply_to.ensures.server ∙ same,
       c.push_reserved.ensures.len ∙ ap (λ k. k + 1) inv.1,
       omega (arith, inv.2, c.push_reserved.ensures.capacity),
       subst (Holds M T₀ x' new_session) (sym grown) stands,
-      subst (AllZeroPast (length T₀)) (sym c.push_reserved.ensures.items)
+      subst (AllZeroPast (length T₀)) (sym told)
           (past_more (length T₀) replies r inv.4 (subst (λ (l : List ℕ). ZeroPast (length l) r) tables c.reply_to.ensures.past)),
     )
 

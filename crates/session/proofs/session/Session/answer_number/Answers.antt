@@ -45,28 +45,29 @@ went_in g c =
     let x = c.args.self.now in
     let T = g.S.Server.table x.server in
     let row = granted g c in
+    let figure = c.row_sum-figure.result.0 in
+    -- the whole open row joins, with its figure
+    let joins : Admitted M x.record.count (rec_of x.record) (take c.count.result c.in_ok-row.row.weights) figure (rec_of c.admit.new.self) c.admit.result =
+    search (c.admit.ensures.admitted) in
     let admitted =
-    subst (λ (n : ℕ). Admitted M n (rec_of x.record) (take (length T) c.in_ok-row.row.weights) c.row_sum-figure.result.0 (rec_of c.admit.new.self) c.admit.result) c.args.self.now.counted
-    (subst (λ (ws : List Element). Admitted M x.record.count (rec_of x.record) ws c.row_sum-figure.result.0 (rec_of c.admit.new.self) c.admit.result) (cut g c)
-    c.admit.ensures.admitted) in
-    admit_succeeds M (length T) (rec_of x.record) (take (length T) c.in_ok-row.row.weights) c.row_sum-figure.result.0 (rec_of c.admit.new.self) c.admit.result
+    subst (λ (n : ℕ). Admitted M n (rec_of x.record) (take (length T) c.in_ok-row.row.weights) figure (rec_of c.admit.new.self) c.admit.result) x.counted
+    (subst (λ (ws : List Element). Admitted M x.record.count (rec_of x.record) ws figure (rec_of c.admit.new.self) c.admit.result) (cut g c) joins) in
+    admit_succeeds M (length T) (rec_of x.record) (take (length T) c.in_ok-row.row.weights) figure (rec_of c.admit.new.self) c.admit.result
     admitted row.0 c.row_sum-figure.ensures.within row.1
 
 pub unwrap-requires : goal.unwrap-requires
 unwrap-requires g c = (went_in g (goal.at.unwrap-requires g c).After-admit).0
 
-pub returns : goal.returns
-returns g c =
+pub returns-clause-law : goal.returns-clause-law
+returns-clause-law g c =
     let M = g.S.Over.Field.model in
     let x = c.args.self.now in
     let T = g.S.Server.table x.server in
-    let here = (goal.at.returns g c).After-admit in
-    let figure : c.row_sum-figure.result.0 ≡ sum M (length T) (weights_of (take (length T) c.in_ok-row.row.weights)) (value_at T) =
-    c.row_sum-figure.ensures.is ∙ ap (λ l. sum M (length T) (weights_of l) (value_at T)) (cut g here) in
-    record {
-      server = refl;
-      kept = refl;
-      law =
-          answered-steps M g.met.S.Over.Field.laws T x _ c.in_ok-row.row
-          c.args.number c.row_sum-figure.result.0 c.in_ok-row.ensures.1 c.in_ok-row.ensures.0 (granted g here).0 figure (went_in g here).1 refl refl;
-    }
+    let row = c.in_ok-row.row in
+    let here = (goal.at.returns-clause-law g c).After-admit in
+    let of_the_row : c.row_sum-figure.result.0 ≡ sum M (length T) (weights_of (take c.count.result row.weights)) (value_at T) =
+    search (c.row_sum-figure.ensures.is) in
+    let figure : c.row_sum-figure.result.0 ≡ sum M (length T) (weights_of (take (length T) row.weights)) (value_at T) =
+    of_the_row ∙ ap (λ l. sum M (length T) (weights_of l) (value_at T)) (cut g here) in
+    answered-steps M g.met.S.Over.Field.laws T x _ row c.args.number _ c.row_sum-figure.result.0
+    c.in_ok-row.ensures.1 c.in_ok-row.ensures.0 (granted g here).0 figure (went_in g here).1 refl refl (omega arith)

@@ -1,12 +1,13 @@
-use Rattle.std.proofs.Common.{◌≡◌, [], length, sym, refl, ap, ◌∙◌, subst}
-use Rattle.server.specs.Tables.{bounded}
+use Rattle.std.proofs.Common.{◌≡◌, [], length, sym, refl, subst, arith}
 use Rattle.echelon.specs.Reduced.{ReducedForm}
 use Rattle.record.specs.Records.{rec_of}
 use Rattle.history.specs.Law.{begins}
 use Rattle.history.proofs.Facts.{new_sane}
 use Rattle.log_record.proofs.Verdicts.{empty_form}
-use Rattle.session.proofs.Begins.{table-count}
 use Rattle.session.proofs.session.Session.new.Goals as goal
+
+pub invariant_of-result-clause-counted : goal.invariant_of-result-clause-counted
+invariant_of-result-clause-counted g c = omega (arith, c.new.ensures.count, c.count-count.ensures.is, c.count-count.ensures.lawful)
 
 pub returns : goal.returns
 returns g c =
@@ -14,8 +15,6 @@ returns g c =
     let L = g.met.S.Over.Field.laws in
     let T = g.S.Server.table c.args.server in
     let none : rec_of c.new.result ≡ [] = c.new.ensures.empty in
-    let count : c.new.result.count ≡ length T =
-    c.new.ensures.count ∙ ap bounded c.count-count.ensures.is ∙ table-count M T c.count-count.ensures.lawful in
     record {
       server = refl;
       holds = record {
@@ -23,7 +22,7 @@ returns g c =
         lawful = begins;
         codes = tt;
         form = subst (ReducedForm M (length T) []) (sym none) (empty_form M (length T));
-        issued_is = refl;
+        issued_is = search;
         open_is = tt;
       };
     }

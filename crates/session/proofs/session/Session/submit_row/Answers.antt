@@ -1,4 +1,4 @@
-use Rattle.std.proofs.Common.{◌≡◌, ℕ, ◌+◌, ◌<◌, List, length, take, Some, None, sym, refl, ap, ◌∙◌, subst, arith}
+use Rattle.std.proofs.Common.{◌≡◌, ℕ, ◌<◌, ◌≤◌, List, length, take, Some, None, sym, refl, ap, ◌∙◌, subst, arith}
 use Rattle.std.proofs.lemmas.Result.{err_from_is_err_and}
 use Rattle.field.specs.Sums.{weights_of}
 use Rattle.field.specs.declared.Element.{Element}
@@ -52,8 +52,8 @@ returns-in_err-i g c =
       law = submit_bad_steps M g.met.S.Over.Field.laws T x ws (sym c.is_some.ensures ∙ c.if-is_some.false) left e fails;
     })
 
-pub returns-in-Pinning : goal.returns-in-Pinning
-returns-in-Pinning g c =
+pub returns-in-Pinning-clause-law : goal.returns-in-Pinning-clause-law
+returns-in-Pinning-clause-law g c =
     let M = g.S.Over.Field.model in
     let x = c.args.self.now in
     let T = g.S.Server.table x.server in
@@ -64,12 +64,7 @@ returns-in-Pinning g c =
     let low : Lowest (PinnedWith M (length T) (rec_of x.record) (weights_of ws)) c.in-Pinning.i.0 =
     subst (λ (n : ℕ). Lowest (PinnedWith M n (rec_of x.record) (weights_of ws)) c.in-Pinning.i.0) x.counted
     (pinned_lowest M _ _ _ c.in-Pinning.i (subst (Judged M _ _ _) c.in-Pinning.is judged.1)) in
-    record {
-      server = refl;
-      kept = refl;
-      law =
-          submit_disclosing_steps M g.met.S.Over.Field.laws T x ws (sym c.is_some.ensures ∙ c.if-is_some.false) left c.in-Pinning.i.0 passed low;
-    }
+    submit_disclosing_steps M g.met.S.Over.Field.laws T x ws (sym c.is_some.ensures ∙ c.if-is_some.false) left _ c.in-Pinning.i.0 passed low (search)
 
 -- what is known of a row that was judged free
 passed_row :
@@ -92,8 +87,11 @@ cut_row : (g : _) (c : After-padded g) → take (length (g.S.Server.table c.args
 cut_row g c =
     let x = c.args.self.now in
     let T = g.S.Server.table x.server in
-    let long = row_length_lem g.S.Over.Field.model (length T) c.args.weights.now (passed_row g c) in
-    ap (λ k. take k c.padded.result) (sym long) ∙ c.padded.ensures.front (omega (arith, long, x.counted, x.record.members.1))
+    let ws = c.args.weights.now in
+    let long = row_length_lem g.S.Over.Field.model (length T) ws (passed_row g c) in
+    let few : length ws ≤ 64 = omega (arith, long, x.counted, x.record.members.1) in
+    let whole : take (length ws) c.padded.result ≡ ws = search (c.padded.ensures.front) in
+    ap (λ k. take k c.padded.result) (sym long) ∙ whole
 
 pub invariant_of-self : goal.invariant_of-self
 invariant_of-self g c =
@@ -110,19 +108,14 @@ invariant_of-self g c =
       );
     }
 
-pub returns : goal.returns
-returns g c =
+pub returns-clause-law : goal.returns-clause-law
+returns-clause-law g c =
     let M = g.S.Over.Field.model in
     let L = g.met.S.Over.Field.laws in
     let x = c.args.self.now in
     let T = g.S.Server.table x.server in
     let ws = c.args.weights.now in
     let left : x.issued < 65535 = let ne = c.if-self.false in omega arith in
-    let here = (goal.at.returns g c).After-padded in
-    record {
-      server = refl;
-      kept = refl;
-      law =
-          granted-steps M L T x ws (sym c.is_some.ensures ∙ c.if-is_some.false) left _
-          (record { permit = x.issued + 1; weights = c.padded.result }) (passed_row g here) (free_row g here) refl refl refl refl (cut_row g here);
-    }
+    let here = (goal.at.returns-clause-law g c).After-padded in
+    granted-steps M L T x ws (sym c.is_some.ensures ∙ c.if-is_some.false) left _ _ _ _ _ _
+    (passed_row g here) (free_row g here) (search) (search) (cut_row g here) (search)

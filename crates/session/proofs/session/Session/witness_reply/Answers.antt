@@ -1,5 +1,4 @@
 use Rattle.std.proofs.Common.{◌≡◌, ℕ, ◌≤◌, List, length, Some, None, sym, ◌∙◌, subst, inl, inr, arith}
-use Rattle.std.proofs.lemmas.List.{take_at}
 use Rattle.std.proofs.lemmas.Result.{err_from_is_err_and}
 use Rattle.field.specs.Sums.{weights_of}
 use Rattle.field.specs.declared.Element.{Element}
@@ -10,8 +9,7 @@ use Rattle.history.specs.Events.{witnesses, fills}
 use Rattle.server.specs.Tables.{codes}
 use Rattle.session.specs.Views.{Steps}
 use Rattle.session.proofs.Steps.{witness-refused-steps, witness_filled_steps}
-use Rattle.record.proofs.Padding.{zero_past}
-use Rattle.session.proofs.Padded.{part}
+use Rattle.session.proofs.Padded.{part, front_is, zero_behind}
 use Rattle.session.proofs.Witnessed.{Own, own-check, buffer-length}
 use Rattle.session.proofs.session.Session.witness_reply.Goals as goal
 use Rattle.session.proofs.session.Session.witness_reply.Goals.{Joined-buffer-le64, then-buffer-le64, else-buffer-le64}
@@ -40,19 +38,23 @@ returns g c =
     let own = c.if-buffer-le64.own in
     let i = c.args.member.0 in
     let a = c.args.element.0 in
-    let facts = c.in_ok-witness.ensures in
     let members = x.record.members in
-    let passed : WitnessCheck M x.record.count i a own None = subst (λ (l : ℕ). WitnessCheck M x.record.count i a l None) (part _ own (own-few g here)) facts.0 in
+    let filled : Witness M x.record.count (rec_of x.record) i a (weights_of c.witness.new.out) = search (c.in_ok-witness.ensures) in
+    let size : length c.witness.new.out ≡ own = c.witness.auto.out ∙ part _ own (own-few g here) in
+    let accepted : WitnessCheck M x.record.count i a (length c.witness.new.out) None = rw c.witness.auto.out (search (c.in_ok-witness.ensures)) in
+    let passed : WitnessCheck M x.record.count i a own None = subst (λ (l : ℕ). WitnessCheck M x.record.count i a l None) size accepted in
     let counted : own ≡ x.record.count = buffer-length M _ i a own passed in
     let brought : WitnessCheck M (length T) i a c.args.buffer None =
     subst (λ (n : ℕ). WitnessCheck M n i a c.args.buffer None) c.args.self.now.counted
     (own-check M x.record.count i a own c.args.buffer None members.0 members.1 (own-buffer g here) passed) in
     let made : Witness M (length T) (rec_of x.record) i a (weights_of c.witness.new.out) =
-    subst (λ (n : ℕ). Witness M n (rec_of x.record) i a (weights_of c.witness.new.out)) c.args.self.now.counted facts.1 in
-    let long : length c.witness.new.out ≡ length T = c.witness.auto.out ∙ part _ own (own-few g here) ∙ counted ∙ c.args.self.now.counted in
+    subst (λ (n : ℕ). Witness M n (rec_of x.record) i a (weights_of c.witness.new.out)) c.args.self.now.counted filled in
+    let long : length c.witness.new.out ≡ length T = size ∙ counted ∙ c.args.self.now.counted in
     record {
-      past = zero_past c.witness.new.out (length T) own long;
-      law = subst (λ (ws : List Element). Steps M T x (witnesses i a c.args.buffer) (fills (codes ws)) x) (sym (take_at c.witness.new.out _ (length T) long)) (witness_filled_steps M L T x i a c.args.buffer c.witness.new.out brought long made);
+      past = zero_behind _ c.witness.new.out own (length T) (search) long;
+      law =
+          subst (λ (ws : List Element). Steps M T x (witnesses i a c.args.buffer) (fills (codes ws)) x)
+          (sym (front_is _ c.witness.new.out own (length T) (search) long)) (witness_filled_steps M L T x i a c.args.buffer c.witness.new.out brought long made);
     }
 
 pub returns-in_err-witness : goal.returns-in_err-witness
@@ -67,8 +69,9 @@ returns-in_err-witness g c =
     let a = c.args.element.0 in
     let e = c.in_err-witness.field-0.0 in
     let members = x.record.members in
-    let fails : WitnessCheck M x.record.count i a own (Some e) =
-    subst (λ (l : ℕ). WitnessCheck M x.record.count i a l (Some e)) (part _ own (own-few g here)) c.in_err-witness.ensures.0 in
+    let size : length c.witness.new.out ≡ own = c.witness.auto.out ∙ part _ own (own-few g here) in
+    let refused_so : WitnessCheck M x.record.count i a (length c.witness.new.out) (Some e) = rw c.witness.auto.out (search (c.in_err-witness.ensures)) in
+    let fails : WitnessCheck M x.record.count i a own (Some e) = subst (λ (l : ℕ). WitnessCheck M x.record.count i a l (Some e)) size refused_so in
     let brought : WitnessCheck M (length T) i a c.args.buffer (Some e) =
     subst (λ (n : ℕ). WitnessCheck M n i a c.args.buffer (Some e)) c.args.self.now.counted
     (own-check M x.record.count i a own c.args.buffer (Some e) members.0 members.1 (own-buffer g here) fails) in
