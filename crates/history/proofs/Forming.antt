@@ -8,14 +8,13 @@ use Rattle.field.specs.Model.{FieldModel, FieldLaws}
 use Rattle.field.specs.Sums.{Vector}
 use Rattle.server.specs.Checks.{Lowest}
 use Rattle.server.specs.Tables.{value_at}
-use Rattle.echelon.specs.Rows.{Figured, rows_of, RowsCodes, Pins}
+use Rattle.echelon.specs.Rows.{Figured, rows_of, RowsCodes, Pins, CodedRow}
 use Rattle.echelon.specs.Reduced.{Pivoted, at, Alone, Reduced, ReducedForm}
 use Rattle.echelon.specs.Elimination.{leftover, joined}
 use Rattle.echelon.specs.Witness.{Free, Leads, from_free, Witness}
 use Rattle.echelon.proofs.Indexed.{find, pivot_or_free}
 use Rattle.echelon.proofs.Tables.{pinned_alone_lem}
 use Rattle.echelon.proofs.Forms.{form_agrees_lem, form-kept, form_grown_lem}
-use Rattle.record.specs.Rows.{CodedRow}
 use Rattle.record.proofs.Judging.{nothing_fixes, not_fixed, the_place, fresh, form}
 use Rattle.record.proofs.Witnessing.{target, leads-pivot}
 use Rattle.history.specs.Theorems.{FiguresCodes}

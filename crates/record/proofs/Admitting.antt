@@ -3,7 +3,7 @@ use Rattle.std.proofs.Common.{◌≡◌, ℕ, ◌<◌, ◌≤◌, List, length, 
 use Rattle.field.specs.Model.{FieldModel, FieldLaws}
 use Rattle.field.specs.Sums.{Vector}
 use Rattle.field.specs.declared.Element.{Element}
-use Rattle.echelon.specs.Rows.{Figured, Agree, Fixes}
+use Rattle.echelon.specs.Rows.{Figured, Agree, Fixes, CodedRow}
 use Rattle.echelon.specs.Reduced.{Pivoted, at, figured, Reduced, Same}
 use Rattle.echelon.specs.Elimination.{joined}
 use Rattle.echelon.proofs.Codes.{sum_cong}
@@ -11,7 +11,7 @@ use Rattle.echelon.proofs.Indexed.{agree_at, at_agree}
 use Rattle.echelon.proofs.Tables.{pinned_alone_lem}
 use Rattle.echelon.proofs.Unique.{same-fits, same_sym, same-reduced}
 use Rattle.echelon.proofs.Forms.{form-kept, form_grown_lem}
-use Rattle.record.specs.Rows.{pivoted, CodedRow}
+use Rattle.record.specs.Rows.{pivoted}
 use Rattle.record.specs.Shapes.{NoneAlone}
 use Rattle.record.specs.Judged.{record_rows, PinnedWith, Adds, FitsBoth, SamePivoted}
 use Rattle.record.specs.Standings.{Stands, Left, fresh_row}

@@ -4,10 +4,10 @@ use native.Mathlib.Decide.{ℕ_discrete, dec_lt}
 use Rattle.field.specs.Model.{FieldModel, FieldLaws}
 use Rattle.field.specs.Sums.{Vector}
 use Rattle.server.specs.Checks.{Lowest}
+use Rattle.echelon.specs.Rows.{CodedRow}
 use Rattle.echelon.specs.Reduced.{Pivoted, at, figured, Alone, Reduced}
 use Rattle.echelon.specs.Elimination.{cleared, pivot_cleared}
 use Rattle.echelon.proofs.Values.{less_none}
-use Rattle.record.specs.Rows.{CodedRow}
 use Rattle.record.specs.Shapes.{NoneAlone}
 use Rattle.record.specs.Judged.{AloneWith}
 

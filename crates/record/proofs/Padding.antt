@@ -19,19 +19,23 @@ module _ (vs : List Element) (few : ℕ) (is : few ≡ min (length vs) 64) (fron
   front-length : length front ≡ few
   front-length = ap length copied ∙ length-take few vs ∙ omega (arith, is)
 
-  pub padded_front : length vs ≤ 64 → (k : ℕ) → take (length vs) (front ++ drop k (replicate 64 zero_element)) ≡ vs
-  padded_front short k =
+  pub padded_front : length vs ≤ 64 → (behind : List Element) → take (length vs) (front ++ behind) ≡ vs
+  padded_front short behind =
       let whole : few ≡ length vs = omega (arith, is, short) in
-      take_at front _ (length vs) (front-length ∙ whole) ∙ copied ∙ take_all few vs (omega (arith, whole))
+      take_at front behind (length vs) (front-length ∙ whole) ∙ copied ∙ take_all few vs (omega (arith, whole))
 
-  pub padded_rest : (k m : ℕ) → length vs ≤ m → weights_of (front ++ drop k (replicate 64 zero_element)) m ≡ 0
-  padded_rest k m past = zero_past front few k front-length m (omega (arith, is))
+  -- the 64 places have the filler z, which is 0
+  module _ (z : ℕ) (none : z ≡ 0) (k : ℕ) where
+    pub padded_rest : (m : ℕ) → length vs ≤ m → weights_of (front ++ drop k (replicate 64 (record { 0 = z }))) m ≡ 0
+    padded_rest m past =
+        ap (λ x. weights_of (front ++ drop k (replicate 64 (record { 0 = x }))) m) none
+        ∙ zero_past front few k front-length m (omega (arith, is))
 
-  pub padded_each : (k m : ℕ) → m < 64 → weights_of (front ++ drop k (replicate 64 zero_element)) m ≡ weights_of vs m
-  padded_each k m h =
-      elim (dec_lt m few) [
-        | yes b ↦
-            ap (λ e. e.0)
-            (get_or_append_left front _ zero_element m (omega (arith, front-length)) ∙ ap (λ l. get_or l m zero_element) copied ∙ get_or-take few vs m zero_element b)
-        | no b ↦ padded_rest k m (omega (arith, is)) ∙ sym (past_end vs m (omega (arith, is)))
-      ]
+    pub padded_each : (m : ℕ) → m < 64 → weights_of (front ++ drop k (replicate 64 (record { 0 = z }))) m ≡ weights_of vs m
+    padded_each m h =
+        elim (dec_lt m few) [
+          | yes b ↦
+              ap (λ e. e.0)
+              (get_or_append_left front _ zero_element m (omega (arith, front-length)) ∙ ap (λ l. get_or l m zero_element) copied ∙ get_or-take few vs m zero_element b)
+          | no b ↦ padded_rest m (omega (arith, is)) ∙ sym (past_end vs m (omega (arith, is)))
+        ]

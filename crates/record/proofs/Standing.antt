@@ -3,11 +3,11 @@ use Rattle.std.proofs.Common.{◌≡◌, ℕ, ◌<◌, ◌≢◌, List, length, 
 use Rattle.field.specs.Model.{FieldModel, FieldLaws}
 use Rattle.field.specs.Sums.{Vector}
 use Rattle.server.specs.Checks.{Lowest}
-use Rattle.echelon.specs.Rows.{Figured}
+use Rattle.echelon.specs.Rows.{Figured, CodedRow}
 use Rattle.echelon.specs.Reduced.{Pivoted, at, figured, Alone, Reduced}
 use Rattle.echelon.specs.Elimination.{leftover, scaled}
 use Rattle.echelon.proofs.Values.{all_codes, leftover-codes, times_nothing}
-use Rattle.record.specs.Rows.{pivoted, SameRow, CodedRow}
+use Rattle.record.specs.Rows.{pivoted, SameRow}
 use Rattle.record.specs.Judged.{PinnedWith, AloneWith, SamePivoted}
 use Rattle.record.specs.Standings.{Left, fresh_row}
 use Rattle.record.specs.declared.rows.RecordRow.{RecordRow}

@@ -15,8 +15,8 @@ use Rattle.field.specs.Sums.{weights_of}
 use Rattle.field.specs.declared.Field.{Ghosts}
 use Rattle.echelon.specs.Reduced.{Pivoted, at, figured, Reduced}
 use Rattle.echelon.specs.Elimination.{cleared, leftover, pivot_cleared}
-use Rattle.echelon.specs.Rows.{Figured, minus}
-use Rattle.record.specs.Rows.{pivoted, SameRow, CodedRow}
+use Rattle.echelon.specs.Rows.{Figured, minus, CodedRow}
+use Rattle.record.specs.Rows.{pivoted, SameRow}
 use Rattle.record.specs.Shapes.{all_pivoted}
 use Rattle.record.specs.Records.{rec_of}
 use Rattle.record.specs.Judged.{SamePivoted}

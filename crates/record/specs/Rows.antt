@@ -2,13 +2,10 @@
 --   figured_row, pivoted     a row with its figure; a record row
 --   figured_record_row       a record row as a row with its figure
 --   SameRow n g h            two rows with figures are equal at the n members
---   CodedRow M n g           weights and figure are elements
 -- Assumes nothing.
 use Rattle.std.specs.Prelude.{◌≡◌, ℕ, ◌<◌}
-use Rattle.field.specs.Model.{FieldModel}
-use Rattle.field.specs.Sums.{Codes, weights_of}
+use Rattle.field.specs.Sums.{weights_of}
 use Rattle.echelon.specs.Rows.{Figured}
-pub use Rattle.echelon.specs.Rows.{CodedRow}
 use Rattle.echelon.specs.Reduced.{Pivoted}
 use Rattle.record.specs.declared.rows.FiguredRow.{FiguredRow}
 use Rattle.record.specs.declared.rows.RecordRow.{RecordRow}

@@ -8,9 +8,10 @@
 -- Assumes nothing.
 use Rattle.std.specs.Prelude.{◌≡◌, ℕ, ◌<◌, ◌≢◌, List, map, length}
 use Rattle.field.specs.Model.{FieldModel}
+use Rattle.echelon.specs.Rows.{CodedRow}
 use Rattle.echelon.specs.Reduced.{Pivoted, figured, at, Alone}
 use Rattle.record.specs.declared.rows.RecordRow.{RecordRow}
-use Rattle.record.specs.Rows.{pivoted, CodedRow}
+use Rattle.record.specs.Rows.{pivoted}
 
 abbrev pub all_pivoted : List RecordRow → List Pivoted
 all_pivoted rows = map pivoted rows

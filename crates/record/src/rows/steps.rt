@@ -1,8 +1,9 @@
 // The steps of elimination on one row.
 ghost use Rattle.std.specs.Prelude.{◌≡◌, ℕ, ◌<◌, ◌≤◌, ◌≢◌, length, MatchOption};
 ghost use Rattle.field.specs.Sums.{minus, weights_of};
+ghost use Rattle.echelon.specs.Rows.{CodedRow};
 ghost use Rattle.echelon.specs.Elimination.{cleared, scaled};
-ghost use Rattle.record.specs.Rows.{figured_row, pivoted, figured_record_row, SameRow, CodedRow};
+ghost use Rattle.record.specs.Rows.{figured_row, pivoted, figured_record_row, SameRow};
 
 use crate::rows::{FiguredRow, RecordRow, padded};
 use field::{Element, Field};

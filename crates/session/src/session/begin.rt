@@ -15,9 +15,10 @@ impl<S: Server> Session<S> {
         ensures holds { Holds S.Over.Field.model (S.Server.table server) result new_session [] }
     {
         let count = server.count();
+        let record = Record::new(room, count);
         Session {
             server,
-            record: Record::new(room, count),
+            record,
             issued: 0,
             pending: None,
         }

@@ -1,6 +1,6 @@
 use Rattle.std.proofs.Common.{◌<◌, refl, arith}
 use Rattle.std.proofs.lemmas.Result.{err_from_is_err_and}
-use Rattle.record.specs.Rows.{CodedRow}
+use Rattle.echelon.specs.Rows.{CodedRow}
 use Rattle.record.specs.Records.{rec_of}
 use Rattle.record.specs.Judged.{given_row, bad_row, no_figure, kept, discloses, joined}
 use Rattle.record.proofs.Views.{reduced_of}

@@ -1,6 +1,7 @@
 use Rattle.std.proofs.Common.{take}
+use Rattle.echelon.specs.Rows.{CodedRow}
 use Rattle.echelon.specs.Elimination.{leftover}
-use Rattle.record.specs.Rows.{figured_row, SameRow, CodedRow}
+use Rattle.record.specs.Rows.{figured_row, SameRow}
 use Rattle.record.specs.Records.{rec_of}
 use Rattle.record.proofs.record.Record.leftover.Given as goal
 

@@ -1,8 +1,9 @@
 use Rattle.std.proofs.Common.{◌≡◌, ℕ, ◌≢◌, get_or, set, sym, refl, ◌∙◌, subst, arith}
 use native.Mathlib.Decide.{ℕ_discrete}
+use Rattle.echelon.specs.Rows.{CodedRow}
 use Rattle.echelon.specs.Reduced.{Pivoted, at, figured}
 use Rattle.echelon.specs.Elimination.{cleared, pivot_cleared}
-use Rattle.record.specs.Rows.{figured_row, pivoted, SameRow, CodedRow}
+use Rattle.record.specs.Rows.{figured_row, pivoted, SameRow}
 use Rattle.record.specs.Shapes.{all_pivoted}
 use Rattle.record.specs.Judged.{SamePivoted}
 use Rattle.record.specs.declared.rows.RecordRow.{RecordRow}

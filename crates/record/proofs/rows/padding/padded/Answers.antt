@@ -9,7 +9,7 @@ returns c =
     let is : few ≡ min (length vs) 64 = omega (arith, c.min-few.ensures) in
     let copied = c.copy_from_slice.ensures.after in
     record {
-      front = λ h. padded_front vs few is _ copied h few;
-      each = λ m h. padded_each vs few is _ copied few m h;
-      rest = λ m h. padded_rest vs few is _ copied few m h;
+      front = λ h. padded_front vs few is _ copied h _;
+      each = λ m h. padded_each vs few is _ copied _ (omega arith) few m h;
+      rest = λ m h. padded_rest vs few is _ copied _ (omega arith) few m h;
     }
