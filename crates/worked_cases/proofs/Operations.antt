@@ -8,7 +8,7 @@ pub inverse_of_2 : amounts.inverse 2 ≡ 32761
 inverse_of_2 = found 2 32761 (lit< tt) refl
 
 pub past_the_size : amounts.plus 65520 2 ≡ 1
-past_the_size = refl
+past_the_size = search
 
 pub past_a_byte : ticks_field.times 2 128 ≡ 27
 unfolding double by_bits product

@@ -1,5 +1,4 @@
 -- The table's rule, by one test over its entries.
-use mathlib.Core.Path.{refl}
 use Rattle.ticks.specs.Polynomials.{double, by_bits, product}
 use Rattle.ticks.specs.Generator.{chain}
 use Rattle.ticks.proofs.Entries.{logarithms_rule}
@@ -7,4 +6,4 @@ use Rattle.ticks.proofs.logarithms.Goals as goal
 
 pub returns : goal.returns
 unfolding chain product by_bits double
-returns c = logarithms_rule _ refl tt refl
+returns c = logarithms_rule _ (search) (search) (search)

@@ -1,9 +1,8 @@
 -- The table's rule, by one test over its entries.
-use mathlib.Core.Path.{refl}
 use Rattle.ticks.specs.Polynomials.{double, by_bits, product}
 use Rattle.ticks.proofs.Entries.{powers_rule}
 use Rattle.ticks.proofs.powers.Goals as goal
 
 pub returns : goal.returns
 unfolding product by_bits double
-returns c = powers_rule _ refl tt refl refl
+returns c = powers_rule _ (search) (search) (search) (search)
