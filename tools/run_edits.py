@@ -10,6 +10,7 @@ import argparse
 import glob
 import os
 import queue
+import re
 import subprocess
 import sys
 import tempfile
@@ -78,7 +79,10 @@ def run(root, program):
     given = open(f"{folder}/stdin", "rb") if os.path.exists(f"{folder}/stdin") else subprocess.DEVNULL
     ran = subprocess.run(words, cwd=folder, stdin=given, capture_output=True)
     told = ran.stderr.decode(errors="replace")
-    if "ended status=" not in told and not ran.stdout:
+    fault = re.search(r"^checked: fault kind=(\w+) in=(\S+)", told, re.MULTILINE)
+    if fault:
+        return f"it stops at a fault: {fault[1]} in {fault[2]}", ""
+    if "ended status=" not in told:
         return "", told.strip().split("\n")[-1]
     change = first_change(ran.stdout, open(f"{folder}/stdout", "rb").read())
     if not change and "ended status=0" not in told:
