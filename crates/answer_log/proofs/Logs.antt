@@ -178,8 +178,8 @@ module _ (M : FieldModel) (n : ℕ) (bytes : List ℕ) where
       ap (take 2) (drop_more bytes 0 0 (omega arith) ∙ ap (λ us. get_or bytes 0 0 ∷ us) (drop_more bytes 1 0 (omega arith)))
       ∙ ap₂ (λ x y. x ∷ y ∷ []) kind same
 
-  pub header_count : HeaderCheck M n bytes None → Count n
-  header_count (accepted long kind count same) = count
+  pub count_accepted : HeaderCheck M n bytes None → Count n
+  count_accepted (accepted long kind count same) = count
 
   module _ (header : HeaderCheck M n bytes None) (o out : List ℕ) (k : ℕ) (put : Put (header_bytes M n) o out k)
       (room : length bytes ≤ length o) where

@@ -5,6 +5,7 @@
 --   plain w n             every weight of the n members is 0 or 1
 --   weight_bytes M w n    the weights of the named members below n, in rising order
 --   stored_bytes M w n    those weights where they are stored, none for a plain row
+--   mark w n              the mark byte: 0 for a plain row, else 1
 --   row_bytes M n w f     a row: mark, map, weights unless the row is plain, figure
 -- The weights of a row are 0 from the count on. Assumes nothing.
 use Rattle.std.specs.Prelude.{ℕ, zero, suc, ◌+◌, ◌*◌, ◌^◌, Bool, true, cond, not, ◌&&◌, List, [], ◌∷◌, ◌++◌, map, ◌==◌, nat_le}

@@ -1,6 +1,7 @@
 -- The lines that a replay prints: bytes, with numbers in decimal.
 --   after_space v      a number after a space
 --   spaced vs          each number after a space
+--   newline            the byte that ends a line
 --   reply_text r       what a line prints of the reply that its last call got
 --   answer_line k r    the line that query line k prints, with its newline
 --   refusal_line_lem n d   the line of a refused table file: the refusal's number, and what comes with it

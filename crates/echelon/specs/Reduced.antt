@@ -1,5 +1,6 @@
 -- The reduced echelon form of rows with figures.
 --   Pivoted                  a record row: its pivot, its weights, its figure
+--   at rec a                 record row a
 --   figured, all_figured     a record row, and all of them, as rows with figures
 --   Reduced M n rec          the record rows are in reduced echelon form, over elements
 --   Alone n row i            the row names member i, and no other

@@ -1,11 +1,13 @@
 -- What holds of records, rows and tables, over every field and every count.
 --   PinnedAlone                 a member is pinned exactly where a record row names it alone
---   BaseFits, DirectionFree     the two tables that every witness is made of
+--   BaseFits, DirectionFree     B fits the record; N(j) has 1 at j, and the sum 0 over every record row
 --   WitnessFits                 a witness has the element at the member, and fits the record
---   AtMostOne, SameFits         records are equal exactly where the same tables fit them
---   FixedLeavesNothing, LeftoverFits   what elimination leaves of a row
+--   AtMostOne, SameFits         reduced records are equal exactly where the same tables fit them
+--   FixedLeavesNothing          a row is fixed exactly where nothing of it is left over
+--   LeftoverFits                what is left over is 0 at the pivots, and its sum less its figure is that of the row
 --   JoinedForm                  a row that joins leaves the record reduced, and adds its own sum and no other
---   FormAgrees, FormKept, FormGrown, OneForm   the reduced form of given rows: what it tells, how it grows, that it is one
+--   FormAgrees, OneForm         tables agree on given rows exactly where they do on their reduced form, which is one
+--   FormKept, FormGrown         the reduced form after a row that is fixed, and after one that is not
 -- Assumes nothing.
 use Rattle.std.specs.Prelude.{◌≡◌, ◌≢◌, List, ◌∷◌, ℕ, ◌≤◌, ◌<◌, length}
 use Rattle.field.specs.Model.{FieldModel, FieldLaws}

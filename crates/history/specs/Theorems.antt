@@ -1,7 +1,7 @@
 -- What is promised of every lawful history, over every field, count, table and list of calls.
 --   Sane M n s             a start that a session can have
 --   JudgingIsExact         a row is refused as disclosing exactly when it would pin a member
---   EveryValueStaysPossible   for each member and element a witness table gives every answered figure
+--   EveryValueStaysPossible   for each member and element a witness table has it there, and gives every answered figure
 --   ValuesAreNotSeen       replies depend on the table through the answered sums alone
 --   OneReplyIsDue          exactly one reply is due to each call
 --   FiguresCodes M rows    each row's figure is an element

@@ -1,4 +1,4 @@
-// Whole jobs of the program `replay`: prints what each table file and text make it print, and the log.
+// Whole jobs, each over a given field: prints what `run_job` answers for a table file and a text, and the log.
 #![tactic(auto)]
 
 use amounts::Amounts;

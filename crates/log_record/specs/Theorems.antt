@@ -3,8 +3,8 @@
 --   RowFine M n g        a row that a log can hold: elements, 0 from the count on, some member named
 --   InOrder M n given    each row given is fine, pins nobody with those before it, and contradicts none of them
 --   AllFine M n given    each row given is fine, whatever a record makes of it
---   AcceptedIsWritten, WrittenIsAccepted   the accepted logs are exactly those that rows in order write
---   AcceptedIsInOrder, ReadIsWritten       the rows that are read are in order, and write the log again
+--   AcceptedIsWritten, AcceptedIsInOrder, WrittenIsAccepted   the accepted logs are exactly those that rows in order write
+--   ReadIsWritten        apart from what the record refuses, the logs read are exactly those that fine rows write
 --   AnsweredIsAccepted   what a new session answered makes an accepted log
 --   OneAnswer            a log has one answer
 --   PossibleAfterALog    every value stays possible after a log

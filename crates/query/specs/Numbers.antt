@@ -1,4 +1,5 @@
 -- The numbers of a line, each read at a place of it.
+--   place p                            a place by its number
 --   byte_at line p                     the byte at a place, none from the line's end on
 --   stands_at line p b                 whether the byte b stands at a place
 --   read_digit_lem line p              the digit at a place, or its fault

@@ -1,6 +1,6 @@
 -- The number of each refusal, and what comes with it: a member, a row of a log, a byte of a line, or 0.
 --   number, detail   the number; what comes with it
---   place            the member, row or place as a number, and 0 for nothing
+--   place            the number of the member or row that a site points at, and 0 for nothing
 -- Assumes nothing.
 use Rattle.std.specs.Prelude.{ℕ}
 use Rattle.refusal.specs.declared.Site.{Site}

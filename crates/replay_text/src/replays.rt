@@ -61,19 +61,18 @@ fn handle_lines<S: Server>(
     let mut rest = text;
     // not a `for` over `split_inclusive`: its proof did not close in a function with this bound
     while !rest.is_empty() {
-        let number = done.lines + 1;
+        let line = done.lines + 1;
         match first_line(rest, answers.len() - done.answers, log.len() - done.log) {
-            Ok((line, after)) => {
+            Ok((bytes, after)) => {
                 let room = &mut answers[done.answers..];
                 let log_room = &mut log[done.log..];
-                let used = handle_line(session, number, line, room, log_room);
-                done.lines = number;
+                let used = handle_line(session, line, bytes, room, log_room);
+                done.lines = line;
                 done.answers += used.answers;
                 done.log += used.log;
                 rest = after;
             }
             Err(refusal) => {
-                let line = number;
                 done.stop = Some(Stop { refusal, line });
                 return done;
             }

@@ -3,9 +3,9 @@
 --   row n w                      the row of n weights that a line names
 --   Asked, Tried M n t s h ws r h'   the row ws, submitted and answered, or submitted and withdrawn, has the last reply r
 --   Served M n t s h q r h'      the same for a request
+--   Handled M n t s h line r rows h'   the same for a line: no answer to a remark; `rows` are the rows answered
 --   figured_with n w v           the row w, with the figure v, as a list of one
 --   answered_row n q r           the row that was answered, with its figure
---   Handled M n t s h line r rows h'   the same for a line: no answer to a remark; `rows` are the rows answered
 -- After the history h the calls that are made lead to the history h'.
 -- Assumes nothing.
 use Rattle.std.specs.Prelude.{◌≡◌, ℕ, List, [], ◌∷◌, take, Some, None, Ok, Err, Option}

@@ -1,6 +1,6 @@
 // Elimination: a new row against the rows of the record.
 ghost use Rattle.std.specs.Prelude.{◌≡◌, ℕ, ◌<◌, ◌≤◌, ◌≢◌, length, MatchOption};
-ghost use Rattle.field.specs.Sums.{Codes, weights_of};
+ghost use Rattle.field.specs.Sums.{weights_of};
 ghost use Rattle.server.specs.Checks.{Lowest};
 ghost use Rattle.echelon.specs.Rows.{CodedRow};
 ghost use Rattle.echelon.specs.Reduced.{at, figured};

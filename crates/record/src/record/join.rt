@@ -4,7 +4,7 @@ ghost use Rattle.field.specs.Sums.{weights_of};
 ghost use Rattle.echelon.specs.Rows.{CodedRow};
 ghost use Rattle.echelon.specs.Reduced.{at, figured, Reduced, Same};
 ghost use Rattle.echelon.specs.Elimination.{pivot_cleared, joined};
-ghost use Rattle.record.specs.Rows.{pivoted, figured_record_row, SameRow};
+ghost use Rattle.record.specs.Rows.{pivoted, figured_record_row};
 ghost use Rattle.record.specs.Shapes.{all_pivoted, NoneAlone};
 ghost use Rattle.record.specs.Records.{rec_of};
 ghost use Rattle.record.specs.Judged.{SamePivoted};

@@ -4,7 +4,7 @@ use Rattle.std.proofs.lemmas.Result.{err_from_is_err_and}
 use Rattle.buffer.specs.Buffers.{Put}
 use Rattle.answer_log.specs.Rows.{header_bytes}
 use Rattle.answer_log.specs.Logs.{bad_log, log_full, accepted}
-use Rattle.answer_log.proofs.Logs.{header_of, rows_of, header_long, header_count, write_excluded, header-front, header-kept, log_put}
+use Rattle.answer_log.proofs.Logs.{header_of, rows_of, header_long, count_accepted, write_excluded, header-front, header-kept, log_put}
 use Rattle.answer_log.proofs.rewriting.rewrite.Goals as goal
 
 pub returns-in_err-check_log : goal.returns-in_err-check_log
@@ -20,7 +20,7 @@ returns-in_err-write_header g c =
     let M = g.F.Field.model in
     let header = header_of M c.args.n c.args.bytes.now c.in_ok-check_log.ensures in
     let long = header_long M c.args.n c.args.bytes.now header in
-    let count = header_count M c.args.n c.args.bytes.now header in
+    let count = count_accepted M c.args.n c.args.bytes.now header in
     absurd (write_excluded _ _ _ (omega (arith, count)) (omega arith) c.in_err-write_header.ensures.0)
 
 pub rewrite_rows-requires : goal.rewrite_rows-requires
