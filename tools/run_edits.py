@@ -7,7 +7,6 @@ Each edit is applied to a copy of the last commit, and programs that use its cra
 proof, until one prints something else than its file `stdout`, or does not end well. Nothing here is part of the gate.
 """
 import argparse
-import glob
 import os
 import queue
 import re
@@ -54,9 +53,18 @@ def read_edit(path):
             name = text
         elif key == "old":
             pairs.append([text, ""])
-        elif key.rstrip(":") == "new":
+        elif key.rstrip(":") == "new":  # a line "new:" has no text
             pairs[-1][1] = text
     return name, pairs
+
+
+def edited(text, pairs):
+    """Returns a text with each old part, which has to stand there once, for the new one; nothing where one does not."""
+    for old, new in pairs:
+        if text.count(old) != 1:
+            return ""
+        text = text.replace(old, new)
+    return text
 
 
 def first_change(got, wanted):
@@ -72,7 +80,7 @@ def first_change(got, wanted):
 def run(root, program):
     """Runs a program in a copy of the repository, and returns what it does otherwise than it should."""
     folder = f"{root}/crates/{program}"
-    words = ["rt", "try", "--seconds", "100"]
+    words = ["rt", "try", "--seconds", "300"]
     if os.path.isdir(f"{folder}/data"):
         for name in sorted(os.listdir(f"{folder}/data")):
             words += ["--data", f"{name}=data/{name}"]
@@ -90,7 +98,19 @@ def run(root, program):
     return change, ""
 
 
+def changes(root, programs):
+    """Runs the programs up to the first that does otherwise than it should, and tells that, and which gave no answer."""
+    for program in programs:
+        change, trouble = run(root, program)
+        if trouble:
+            yield f"{program} gives no answer ({trouble})"
+        if change:
+            yield f"{program}, {change}"
+            return
+
+
 def work(tasks, lock):
+    """Applies one edit after another in a copy of the last commit, and prints what the programs then do."""
     with tempfile.TemporaryDirectory(prefix="edits-") as root:
         subprocess.run(["git", "clone", "-q", ROOT, root], check=True)
         while True:
@@ -101,20 +121,15 @@ def work(tasks, lock):
             name, pairs = read_edit(f"{root}/crates/{crate}/must-fail/{edit}.edit")
             path = f"{root}/crates/{crate}/{name}"
             before = open(path).read()
-            text = before
-            for old, new in pairs:
-                text = text.replace(old, new)
-            open(path, "w").write(text)
-            seen = "no program prints anything else"
-            for program in PROGRAMS[crate]:
-                change, trouble = run(root, program)
-                if change or trouble:
-                    seen = f"{program}, {change or trouble}"
-                if change:
-                    break
-            open(path, "w").write(before)
+            text = edited(before, pairs)
+            if text:
+                open(path, "w").write(text)
+                told = list(changes(root, PROGRAMS[crate]))
+                open(path, "w").write(before)
+            else:
+                told = ["the edit does not fit its file"]
             with lock:
-                print(f"{crate}/{edit}: {seen}", flush=True)
+                print(f"{crate}/{edit}: {'; '.join(told) or 'no program prints anything else'}", flush=True)
 
 
 def main():
@@ -123,10 +138,15 @@ def main():
     options.add_argument("chosen", nargs="*")
     given = options.parse_args()
     tasks = queue.Queue()
-    for path in sorted(glob.glob(f"{ROOT}/crates/*/must-fail/*.edit")):
-        crate, edit = path.split("/")[-3], os.path.basename(path)[: -len(".edit")]
-        if crate in PROGRAMS and (not given.chosen or crate in given.chosen or f"{crate}/{edit}" in given.chosen):
+    listed = subprocess.run(["git", "ls-files", "crates/*/must-fail/*.edit"], cwd=ROOT, capture_output=True, text=True, check=True)
+    for path in listed.stdout.split():
+        crate, edit = path.split("/")[1], os.path.basename(path)[: -len(".edit")]
+        if given.chosen and crate not in given.chosen and f"{crate}/{edit}" not in given.chosen:
+            continue
+        if crate in PROGRAMS:
             tasks.put((crate, edit))
+        else:
+            print(f"{crate}/{edit}: nothing to run")
     lock = threading.Lock()
     workers = [threading.Thread(target=work, args=(tasks, lock)) for _ in range(given.jobs)]
     for worker in workers:
