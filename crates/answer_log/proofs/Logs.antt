@@ -12,7 +12,7 @@ use Rattle.field.specs.declared.Element.{Element}
 use Rattle.field.proofs.Zero.{zero-code}
 use Rattle.server.specs.Checks.{Count}
 use Rattle.member_map.specs.Maps.{named}
-use Rattle.record.proofs.Weights.{past_end}
+use Rattle.checks.proofs.Weights.{past_end}
 use Rattle.answer_log.specs.Rows.{header_bytes, row_bytes}
 use Rattle.answer_log.specs.Entries.{map_of, row_length_lem, row_weight, Faulty, EntryCheck, wrong_count, unknown_mark, map_cut, stray_bit, none_named, rest_cut, not_an_element, stored_zero, needless_weights, no_figure, accepted, Reads, RowAt, HeaderCheck}
 use Rattle.answer_log.specs.Writes.{HeaderWrite, wrong_count as no-count, log_full as no_room}

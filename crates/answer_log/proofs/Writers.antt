@@ -7,8 +7,8 @@ use Rattle.field.specs.Model.{FieldModel}
 use Rattle.field.specs.Sums.{weights_of}
 use Rattle.field.specs.declared.Element.{Element}
 use Rattle.server.specs.Checks.{Count}
-use Rattle.record.specs.Checks.{RowCheck, accepted}
-use Rattle.record.proofs.Weights.{past_end}
+use Rattle.checks.specs.Checks.{RowCheck, accepted}
+use Rattle.checks.proofs.Weights.{past_end}
 use Rattle.answer_log.specs.Rows.{header_bytes, row_bytes}
 use Rattle.answer_log.specs.Entries.{Reads}
 use Rattle.answer_log.specs.Writes.{HeaderWrite, log_full, accepted}

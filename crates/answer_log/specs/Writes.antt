@@ -12,7 +12,7 @@ use Rattle.field.specs.Model.{FieldModel}
 use Rattle.field.specs.Sums.{weights_of}
 use Rattle.field.specs.declared.Element.{Element}
 use Rattle.server.specs.Checks.{Count}
-use Rattle.record.specs.Checks.{RowCheck}
+use Rattle.checks.specs.Checks.{RowCheck}
 use Rattle.answer_log.specs.Rows.{row_bytes}
 
 pub data HeaderWrite (n room : ℕ) : Option Refusal → Type 0 where

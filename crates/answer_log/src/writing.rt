@@ -10,7 +10,7 @@ ghost use Rattle.answer_log.specs.Writes.{HeaderWrite, RowWrite};
 use crate::parts::Row;
 use buffer::put_bytes;
 use field::{Element, Field};
-use record::check_row;
+use checks::check_row;
 use refusal::{Refusal, Site};
 use server::is_count;
 use std::marker::PhantomData;

@@ -7,3 +7,7 @@ pub mod Leftover
 pub mod Joined
 pub mod Unique
 pub mod Forms
+pub mod Given
+pub mod Judging
+pub mod Witnessing
+pub mod Own

@@ -5,11 +5,12 @@
 --   with_pivot p g        a row as a record row with the pivot p
 --   pivot_cleared M e d   a record row cleared by e; its pivot stays
 --   joined M e k rec      e put in before row k of the record, once its pivot is cleared from every row
+--   AloneWith M n rec e i member i stands alone in a record row cleared by e, or in e
 -- Assumes nothing.
-use Rattle.std.specs.Prelude.{List, [], ◌∷◌, ◌++◌, map, ℕ, take, drop}
+use Rattle.std.specs.Prelude.{◌≡◌, ◌<◌, ◌⊎◌, List, [], ◌∷◌, ◌++◌, map, ℕ, length, take, drop}
 use Rattle.field.specs.Model.{FieldModel}
 use Rattle.echelon.specs.Rows.{minus, Figured}
-use Rattle.echelon.specs.Reduced.{Pivoted, figured}
+use Rattle.echelon.specs.Reduced.{Pivoted, figured, at, Alone}
 
 abbrev pub cleared : FieldModel → Pivoted → Figured → Figured
 cleared M e g = record {
@@ -33,3 +34,9 @@ pivot_cleared M e d = with_pivot d.pivot (cleared M e (figured d))
 
 abbrev pub joined : FieldModel → Pivoted → ℕ → List Pivoted → List Pivoted
 joined M e k rec = let rest = map (pivot_cleared M e) rec in take k rest ++ e ∷ drop k rest
+
+-- member i stands alone in a record row cleared by e, or in e itself
+abbrev pub AloneWith : FieldModel → ℕ → List Pivoted → Pivoted → ℕ → Type 0
+AloneWith M n rec e i =
+    ((a : ℕ) × (a < length rec) × ((at rec a).pivot ≡ i) × Alone n (pivot_cleared M e (at rec a)).weights i)
+    ⊎ ((e.pivot ≡ i) × Alone n e.weights i)

@@ -2,8 +2,12 @@
 --   Pivoted                  a record row: its pivot, its weights, its figure
 --   at rec a                 record row a
 --   figured, all_figured     a record row, and all of them, as rows with figures
+--   record_rows rec          the rows of a record alone, without their figures
 --   Reduced M n rec          the record rows are in reduced echelon form, over elements
 --   Alone n row i            the row names member i, and no other
+--   NoneAlone n rec          no record row names its pivot alone
+--   PinnedWith M n rec r i   member i is pinned by the record's rows with r
+--   FixedFigure M n rec r f  every table that fits the record has the sum f over r
 --   FitsGiven M n given t    t has each figure given, but for rows that the ones before fix: those add no figure
 --   ReducedForm M n given rec   rec is reduced, and the same tables fit it as fit what was given
 --   Same n rec rec'          two records are equal, row by row, at the n members
@@ -11,7 +15,7 @@
 -- Assumes nothing.
 use Rattle.std.specs.Prelude.{◌≡◌, ◌≢◌, List, [], ◌∷◌, map, ℕ, ◌<◌, length, get_or}
 use Rattle.field.specs.Model.{FieldModel}
-use Rattle.echelon.specs.Rows.{Vector, Codes, sum, Figured, rows_of, Fits, Fixes}
+use Rattle.echelon.specs.Rows.{Vector, Codes, sum, Figured, rows_of, Fits, Pins, Fixes}
 
 pub record Pivoted : Type 0 where
   pub pivot : ℕ
@@ -23,6 +27,9 @@ figured e = record { row = e.weights; figure = e.figure }
 
 abbrev pub all_figured : List Pivoted → List Figured
 all_figured rec = map figured rec
+
+abbrev pub record_rows : List Pivoted → List Vector
+record_rows rec = rows_of (all_figured rec)
 
 abbrev pub no_row : Pivoted
 no_row = record { pivot = 0; weights = λ m. 0; figure = 0 }
@@ -42,6 +49,16 @@ pub record Reduced (M : FieldModel) (n : ℕ) (rec : List Pivoted) : Type 0 wher
 
 abbrev pub Alone : ℕ → Vector → ℕ → Type 0
 Alone n row i = (row i ≢ 0) × ((m : ℕ) → m < n → m ≢ i → row m ≡ 0)
+
+abbrev pub NoneAlone : ℕ → List Pivoted → Type 0
+NoneAlone n rec = (a : ℕ) → a < length rec → Alone n (at rec a).weights (at rec a).pivot → ⊥
+
+-- member i is pinned by the record's rows with r
+abbrev pub PinnedWith : FieldModel → ℕ → List Pivoted → Vector → ℕ → Type 0
+PinnedWith M n rec r i = (i < n) × Pins M n (r ∷ record_rows rec) i
+
+abbrev pub FixedFigure : FieldModel → ℕ → List Pivoted → Vector → ℕ → Type 0
+FixedFigure M n rec r f = (t : Vector) → Codes M n t → Fits M n (all_figured rec) t → sum M n r t ≡ f
 
 abbrev pub FitsGiven : FieldModel → ℕ → List Figured → Vector → Type 0
 FitsGiven M n [] t = Unit {0}

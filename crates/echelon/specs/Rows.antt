@@ -1,8 +1,10 @@
 -- Rows with figures, and what they tell of tables, over every field and every count n of members.
 --   Figured             a row with the figure given for it
+--   given_row ws f      the row of these weights with the figure f
 --   rows_of given       the rows alone, without their figures
 --   RowsCodes M n rows  each row's weights are elements
 --   CodedRow M n g      weights and figure of a row are elements
+--   FiguresCodes M given   each row's figure is an element
 --   Agree M n rows t u  two tables have the same sum over each of the rows
 --   Fits M n given t    a table has each figure as its sum
 --   Pins M n rows i     any two tables that agree on the rows are equal at member i
@@ -10,12 +12,18 @@
 -- Assumes nothing.
 use Rattle.std.specs.Prelude.{◌≡◌, List, [], ◌∷◌, map, ℕ, ◌<◌}
 use Rattle.field.specs.Model.{FieldModel}
+use Rattle.field.specs.Sums.{weights_of}
+use Rattle.field.specs.declared.Element.{Element}
 pub use Rattle.field.specs.Sums.{Vector, Codes, minus}
 unfoldable pub use Rattle.field.specs.Sums.{sum}
 
 pub record Figured : Type 0 where
   pub row : Vector
   pub figure : ℕ
+
+-- the row of these weights with a figure
+abbrev pub given_row : List Element → ℕ → Figured
+given_row ws f = record { row = weights_of ws; figure = f }
 
 abbrev pub rows_of : List Figured → List Vector
 rows_of given = map (λ g. g.row) given
@@ -26,6 +34,10 @@ RowsCodes M n (r ∷ rows) = Codes M n r × RowsCodes M n rows
 
 abbrev pub CodedRow : FieldModel → ℕ → Figured → Type 0
 CodedRow M n g = Codes M n g.row × (g.figure < M.size)
+
+abbrev pub FiguresCodes : FieldModel → List Figured → Type 0
+FiguresCodes M [] = Unit {0}
+FiguresCodes M (g ∷ given) = (g.figure < M.size) × FiguresCodes M given
 
 abbrev pub Agree : FieldModel → ℕ → List Vector → Vector → Vector → Type 0
 Agree M n [] t u = Unit {0}

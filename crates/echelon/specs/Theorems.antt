@@ -8,6 +8,7 @@
 --   JoinedForm                  a row that joins leaves the record reduced, and adds its own sum and no other
 --   FormAgrees, OneForm         tables agree on given rows exactly where they do on their reduced form, which is one
 --   FormKept, FormGrown         the reduced form after a row that is fixed, and after one that is not
+--   OwnForm                     a reduced record is the reduced form of its own rows
 -- Assumes nothing.
 use Rattle.std.specs.Prelude.{◌≡◌, ◌≢◌, List, ◌∷◌, ℕ, ◌≤◌, ◌<◌, length}
 use Rattle.field.specs.Model.{FieldModel, FieldLaws}
@@ -115,6 +116,11 @@ FormGrown =
     → (Fits M n (all_figured rec') t → Fits M n (g ∷ all_figured rec) t)
     × (Fits M n (g ∷ all_figured rec) t → Fits M n (all_figured rec') t))
     → ReducedForm M n (g ∷ given) rec'
+
+-- A reduced record is the reduced form of its own rows, with their figures.
+abbrev pub OwnForm : Type 0
+OwnForm =
+    (M : FieldModel) → FieldLaws M → (n : ℕ) (rec : List Pivoted) → Reduced M n rec → ReducedForm M n (all_figured rec) rec
 
 -- At most one record is the reduced form of given rows.
 abbrev pub OneForm : Type 0

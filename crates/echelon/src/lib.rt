@@ -1,7 +1,7 @@
 // The theory of the record: reduced echelon form over every field. Each function stands for the theorem in its contract.
 #![tactic(auto)]
 
-ghost use Rattle.echelon.specs.Theorems.{PinnedAlone, BaseFits, DirectionFree, WitnessFits, AtMostOne, FixedLeavesNothing, LeftoverFits, JoinedForm, FormAgrees, FormKept, FormGrown, OneForm, SameFits};
+ghost use Rattle.echelon.specs.Theorems.{PinnedAlone, BaseFits, DirectionFree, WitnessFits, AtMostOne, FixedLeavesNothing, LeftoverFits, JoinedForm, FormAgrees, FormKept, FormGrown, OwnForm, OneForm, SameFits};
 
 pub fn pinned_alone()
     ensures { PinnedAlone }
@@ -45,6 +45,10 @@ pub fn form_kept()
 
 pub fn form_grown()
     ensures { FormGrown }
+{}
+
+pub fn own_form()
+    ensures { OwnForm }
 {}
 
 pub fn one_form()

@@ -10,8 +10,8 @@ use Rattle.server.specs.Tables.{value_at}
 use Rattle.echelon.specs.Rows.{Figured, rows_of, Agree, Pins}
 use Rattle.echelon.specs.Reduced.{Pivoted, ReducedForm}
 use Rattle.echelon.specs.Witness.{Witness}
-use Rattle.record.specs.Checks.{WitnessCheck}
-use Rattle.record.specs.Checks as checks
+use Rattle.checks.specs.Checks.{WitnessCheck}
+use Rattle.checks.specs.Checks as checks
 use Rattle.history.specs.Events.{Call, Reply, Event, Start, OpenRow, submits, answers, withdraws, witnesses, permits, gives, takes_back, fills, refuses, refused, one_if_permit, open_after, with_figure, newly_answered, issued, open_row, answered, given}
 use Rattle.history.specs.Law.{PinnedBy, Ready, Due, permit_open, permits_spent, bad_row, discloses, granted, answer_refused, answered_with, withdrawal_refused, withdrawn, witness_refused, witness_filled}
 use Rattle.history.specs.Theorems.{Alike}

@@ -6,9 +6,8 @@ use Rattle.field.specs.Sums.{Vector, Codes, weights_of}
 use Rattle.field.specs.declared.Element.{Element}
 use Rattle.server.specs.Checks.{Lowest}
 use Rattle.echelon.specs.Rows.{Figured, rows_of, RowsCodes, Fits, Pins, Fixes}
-use Rattle.echelon.specs.Reduced.{Pivoted, all_figured, ReducedForm}
+use Rattle.echelon.specs.Reduced.{Pivoted, all_figured, ReducedForm, record_rows, PinnedWith}
 use Rattle.echelon.proofs.Forms.{form_agrees_lem}
-use Rattle.record.specs.Judged.{record_rows, PinnedWith}
 use Rattle.history.specs.Law.{PinnedBy}
 use Rattle.history.proofs.Possible.{fits-given}
 

@@ -8,9 +8,9 @@ use Rattle.field.specs.Model.{FieldModel}
 use Rattle.field.specs.Sums.{Codes, weights_of}
 use Rattle.field.specs.declared.Element.{Element}
 use Rattle.server.specs.Checks.{Lowest}
-use Rattle.record.specs.Checks.{RowCheck, WitnessCheck, StrayWeight}
-use Rattle.record.specs.Checks as checks
-use Rattle.record.proofs.Checks.{none_stray}
+use Rattle.checks.specs.Checks.{RowCheck, WitnessCheck, StrayWeight}
+use Rattle.checks.specs.Checks as checks
+use Rattle.checks.proofs.Searches.{none_stray}
 use Rattle.history.proofs.Searching.{lowest-one, lowest-below, not_zero, not_not_zero}
 
 stray_or_code : (M : FieldModel) (n : ℕ) (ws : List Element) (m : ℕ) → length ws ≡ n → Codes M n (weights_of ws) → StrayWeight M ws m → ⊥

@@ -3,7 +3,7 @@ use Rattle.std.proofs.Common.{◌≡◌, ℕ, ◌+◌, List, None, refl, arith}
 use Rattle.field.specs.Model.{FieldModel}
 use Rattle.field.specs.Sums.{Vector}
 use Rattle.field.specs.declared.Element.{Element}
-use Rattle.record.specs.Checks.{RowCheck}
+use Rattle.checks.specs.Checks.{RowCheck}
 use Rattle.history.specs.Events.{Reply, Event, Start, submits, permits, refuses, issued, given}
 use Rattle.history.specs.Law.{PinnedBy, Ready, Due, permit_open, permits_spent, bad_row, discloses, granted}
 use Rattle.history.specs.Theorems.{JudgingIsExact}

@@ -6,8 +6,8 @@ use Rattle.field.specs.Sums.{Vector, Codes, sum, weights_of}
 use Rattle.echelon.specs.Rows.{Figured, rows_of, RowsCodes, Fits, Pins}
 use Rattle.field.proofs.Zero.{zero-code}
 use Rattle.echelon.proofs.Codes.{sum_below, one_code}
-use Rattle.record.specs.Checks.{RowCheck}
-use Rattle.record.proofs.Verdict.{row-codes}
+use Rattle.checks.specs.Checks.{RowCheck}
+use Rattle.checks.proofs.Passed.{row-codes}
 use Rattle.history.specs.Events.{Call, Reply, Event, Start, OpenRow, new_session, one_if_permit, open_after, with_figure, newly_answered, issued, open_row, answered, given}
 use Rattle.history.specs.Law.{PinnedBy, Due, permit_open, permits_spent, bad_row, discloses, granted, answer_refused, answered_with, withdrawal_refused, withdrawn, witness_refused, witness_filled, Lawful, goes_on}
 use Rattle.history.specs.Theorems.{FiguresCodes, Sane}

@@ -15,8 +15,8 @@ use Rattle.echelon.specs.Witness.{Free, Leads, from_free, Witness}
 use Rattle.echelon.proofs.Indexed.{find, pivot_or_free}
 use Rattle.echelon.proofs.Tables.{pinned_alone_lem}
 use Rattle.echelon.proofs.Forms.{form_agrees_lem, form-kept, form_grown_lem}
-use Rattle.record.proofs.Judging.{nothing_fixes, not_fixed, the_place, fresh, form}
-use Rattle.record.proofs.Witnessing.{target, leads-pivot}
+use Rattle.echelon.proofs.Judging.{nothing_fixes, not_fixed, the_place, fresh, form}
+use Rattle.echelon.proofs.Witnessing.{target, leads-pivot}
 use Rattle.history.specs.Theorems.{FiguresCodes}
 use Rattle.history.proofs.Searching.{lowest-below, not_zero, not_not_zero}
 

@@ -6,12 +6,11 @@ use Rattle.field.specs.Model.{FieldModel, FieldLaws}
 use Rattle.field.specs.Sums.{Vector}
 use Rattle.field.specs.declared.Element.{Element}
 use Rattle.server.specs.Checks.{Lowest}
-use Rattle.echelon.specs.Rows.{rows_of, Agree}
+use Rattle.echelon.specs.Rows.{rows_of, Agree, given_row}
 use Rattle.field.proofs.Zero.{zero-code}
-use Rattle.record.specs.Checks.{RowCheck, WitnessCheck}
-use Rattle.record.specs.Checks as checks
-use Rattle.record.specs.Judged.{given_row}
-use Rattle.record.proofs.Verdict.{row-codes}
+use Rattle.checks.specs.Checks.{RowCheck, WitnessCheck}
+use Rattle.checks.specs.Checks as checks
+use Rattle.checks.proofs.Passed.{row-codes}
 use Rattle.history.specs.Events.{Call, Reply, Event, Start, OpenRow, submits, answers, withdraws, witnesses, newly_answered, issued, open_row, given}
 use Rattle.history.specs.Law.{PinnedBy, Ready, Due, permit_open, permits_spent, bad_row, discloses, granted, answer_refused, answered_with, withdrawal_refused, withdrawn, witness_refused, witness_filled}
 use Rattle.history.specs.Theorems.{OneReplyIsDue}

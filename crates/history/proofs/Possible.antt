@@ -7,7 +7,7 @@ use Rattle.echelon.specs.Rows.{Figured, rows_of, Agree, Fits}
 use Rattle.echelon.specs.Reduced.{FitsGiven}
 use Rattle.echelon.proofs.Tables.{witness-fits}
 use Rattle.echelon.proofs.Forms.{given-agree}
-use Rattle.record.specs.Checks as checks
+use Rattle.checks.specs.Checks as checks
 use Rattle.history.specs.Events.{Reply, Event, Start, witnesses, fills, given}
 use Rattle.history.specs.Law.{Due, witness_refused, witness_filled}
 use Rattle.history.specs.Theorems.{EveryValueStaysPossible}

@@ -6,7 +6,7 @@ use Rattle.field.specs.Model.{FieldModel}
 use Rattle.field.specs.Sums.{Vector}
 use Rattle.field.specs.declared.Element.{Element}
 use Rattle.server.specs.Checks.{Lowest}
-use Rattle.record.specs.Checks.{RowCheck}
+use Rattle.checks.specs.Checks.{RowCheck}
 use Rattle.history.specs.Events.{Reply, Event, Start, submits, permits, refuses, refused, issued, open_row, given}
 use Rattle.history.specs.Law.{PinnedBy, Ready, Due, permit_open, permits_spent, bad_row, discloses, granted}
 use Rattle.history.proofs.Searching.{lowest-one}

@@ -16,7 +16,7 @@ use Rattle.server.specs.Tables.{value_at}
 use Rattle.echelon.specs.Rows.{Figured, rows_of, Pins}
 use Rattle.echelon.specs.Reduced.{Pivoted, ReducedForm}
 use Rattle.echelon.specs.Witness.{Witness}
-use Rattle.record.specs.Checks.{RowCheck, WitnessCheck}
+use Rattle.checks.specs.Checks.{RowCheck, WitnessCheck}
 use Rattle.history.specs.Events.{Call, Reply, Event, Start, OpenRow, submits, answers, withdraws, witnesses, permits, gives, takes_back, fills, refused, issued, open_row, given}
 
 abbrev pub PinnedBy : FieldModel → ℕ → List Figured → List Element → ℕ → Type 0

@@ -14,7 +14,7 @@ use Rattle.field.specs.Sums.{Vector, Codes}
 use Rattle.field.specs.declared.Element.{Element}
 use Rattle.server.specs.Tables.{value_at}
 use Rattle.echelon.specs.Rows.{Figured, rows_of, RowsCodes, Agree, Fits, Pins}
-use Rattle.record.specs.Checks.{RowCheck}
+use Rattle.checks.specs.Checks.{RowCheck}
 use Rattle.history.specs.Events.{Call, Reply, Event, Start, submits, witnesses, permits, gives, takes_back, fills, refuses, answered, given}
 use Rattle.history.specs.Law.{PinnedBy, Ready, Due, Lawful}
 

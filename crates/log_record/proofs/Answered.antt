@@ -4,11 +4,10 @@ use Rattle.std.proofs.lemmas.List.{append-nil}
 use Rattle.field.specs.Model.{FieldModel, FieldLaws}
 use Rattle.field.specs.Sums.{Vector, Codes, sum, weights_of}
 use Rattle.field.specs.declared.Element.{Element}
-use Rattle.echelon.specs.Rows.{Figured, Fits}
-use Rattle.record.specs.Checks as checks
-use Rattle.record.specs.Checks.{RowCheck}
-use Rattle.record.specs.Judged.{given_row}
-use Rattle.record.proofs.Weights.{past_end}
+use Rattle.echelon.specs.Rows.{Figured, Fits, given_row}
+use Rattle.checks.specs.Checks as checks
+use Rattle.checks.specs.Checks.{RowCheck}
+use Rattle.checks.proofs.Weights.{past_end}
 use Rattle.history.specs.Events.{Call, Reply, Event, OpenRow, new_session, with_figure, newly_answered, open_row, answered, given}
 use Rattle.history.specs.Law.{PinnedBy, Due, permit_open, permits_spent, bad_row, discloses, granted, answer_refused, answered_with, withdrawal_refused, withdrawn, witness_refused, witness_filled, Lawful}
 use Rattle.history.proofs.Facts.{After, before, last_due, after, table_fits, figure_code, new_sane}

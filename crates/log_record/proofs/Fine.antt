@@ -10,7 +10,7 @@ use Rattle.member_map.specs.Maps.{named, named_below}
 use Rattle.member_map.proofs.Counts.{none_below, below_unnamed}
 use Rattle.answer_log.specs.Entries.{map_of, EntryCheck, accepted, Reads, RowAt}
 use Rattle.answer_log.proofs.Logs.{weight-below, cut_reads}
-use Rattle.record.specs.Checks.{RowCheck, accepted as passes}
+use Rattle.checks.specs.Checks.{RowCheck, accepted as passes}
 use Rattle.log_record.specs.Joins.{row_with}
 use Rattle.log_record.specs.Theorems.{RowFine}
 

@@ -9,7 +9,7 @@ use Rattle.echelon.specs.Rows.{Figured, rows_of, Fits, Fixes}
 use Rattle.echelon.specs.Reduced.{FitsGiven}
 use Rattle.echelon.proofs.Tables.{witness-fits}
 use Rattle.echelon.proofs.Forms.{given-agree}
-use Rattle.record.specs.Checks as checks
+use Rattle.checks.specs.Checks as checks
 use Rattle.history.specs.Events.{Reply, Event, Start, witnesses, fills, answered, given}
 use Rattle.history.specs.Law.{Due, witness_refused, witness_filled}
 use Rattle.history.proofs.Checked.{witness-check-apart}

@@ -8,17 +8,17 @@ use Rattle.refusal.specs.declared.Member.{Member}
 use Rattle.field.specs.Model.{FieldModel, FieldLaws}
 use Rattle.field.specs.Sums.{weights_of}
 use Rattle.field.specs.declared.Element.{Element}
-use Rattle.echelon.specs.Rows.{Figured, Fixes}
-use Rattle.echelon.specs.Reduced.{Pivoted, ReducedForm}
+use Rattle.echelon.specs.Rows.{Figured, Fixes, given_row}
+use Rattle.echelon.specs.Reduced.{Pivoted, ReducedForm, record_rows, FixedFigure}
 use Rattle.echelon.specs.Witness.{base}
 use Rattle.echelon.proofs.Tables.{base-fits}
 use Rattle.echelon.proofs.Forms.{form_agrees_lem, form-kept}
-use Rattle.record.specs.Checks.{RowCheck}
+use Rattle.checks.specs.Checks.{RowCheck}
 use Rattle.record.specs.Judged as judged
-use Rattle.record.specs.Judged.{record_rows, FixedFigure, Judged, given_row, Adds, FitsBoth, Admitted}
+use Rattle.record.specs.Judged.{Judged, Adds, FitsBoth, Admitted}
 use Rattle.record.specs.declared.judge.Judgement.TheVariants.{Fixed, Pinning, Free}
 use Rattle.record.specs.declared.judge.Admission.{Admission}
-use Rattle.record.proofs.Verdict.{row-codes}
+use Rattle.checks.proofs.Passed.{row-codes}
 use Rattle.history.proofs.Checked.{row-check-apart}
 use Rattle.history.proofs.Facts.{new_sane}
 use Rattle.history.proofs.ByRecord.{pinned_by, pinned_with, fixed-pins_none, record_fits}

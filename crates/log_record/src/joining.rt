@@ -1,9 +1,8 @@
 // One row of a log joins the record.
 ghost use Rattle.std.specs.Prelude.{◌≡◌, ◌<◌, List, ◌∷◌, Some, None, MatchResult, OnErr};
-ghost use Rattle.echelon.specs.Rows.{Figured};
-ghost use Rattle.record.specs.Checks.{RowCheck};
+ghost use Rattle.echelon.specs.Rows.{Figured, given_row};
+ghost use Rattle.checks.specs.Checks.{RowCheck};
 ghost use Rattle.record.specs.Records.{rec_of};
-ghost use Rattle.record.specs.Judged.{given_row};
 ghost use Rattle.log_record.specs.Joins.{JoinCheck, Recorded};
 
 use field::{Element, Field};

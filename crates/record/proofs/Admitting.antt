@@ -4,7 +4,7 @@ use Rattle.field.specs.Model.{FieldModel, FieldLaws}
 use Rattle.field.specs.Sums.{Vector}
 use Rattle.field.specs.declared.Element.{Element}
 use Rattle.echelon.specs.Rows.{Figured, Agree, Fixes, CodedRow}
-use Rattle.echelon.specs.Reduced.{Pivoted, at, figured, Reduced, Same}
+use Rattle.echelon.specs.Reduced.{Pivoted, at, figured, Reduced, Same, NoneAlone, record_rows, PinnedWith}
 use Rattle.echelon.specs.Elimination.{joined}
 use Rattle.echelon.proofs.Codes.{sum_cong}
 use Rattle.echelon.proofs.Indexed.{agree_at, at_agree}
@@ -12,14 +12,13 @@ use Rattle.echelon.proofs.Tables.{pinned_alone_lem}
 use Rattle.echelon.proofs.Unique.{same-fits, same_sym, same-reduced}
 use Rattle.echelon.proofs.Forms.{form-kept, form_grown_lem}
 use Rattle.record.specs.Rows.{pivoted}
-use Rattle.record.specs.Shapes.{NoneAlone}
-use Rattle.record.specs.Judged.{record_rows, PinnedWith, Adds, FitsBoth, SamePivoted}
+use Rattle.record.specs.Judged.{Adds, FitsBoth, SamePivoted}
 use Rattle.record.specs.Standings.{Stands, Left, fresh_row}
 use Rattle.record.specs.Standings as standings
 use Rattle.record.specs.declared.judge.Standing.TheVariants as Standing
 use Rattle.record.specs.declared.rows.RecordRow.{RecordRow}
 use Rattle.record.proofs.Join.{same-joins}
-use Rattle.record.proofs.Judging.{Place, Form, form, new_pivot, not_fixed, nothing_fixes}
+use Rattle.echelon.proofs.Judging.{Place, Form, form, new_pivot, not_fixed, nothing_fixes}
 
 -- tables agree on equal records alike
 same-agree :

@@ -5,11 +5,9 @@ use Rattle.field.specs.Model.{FieldModel, FieldLaws}
 use Rattle.field.specs.Sums.{Vector}
 use Rattle.server.specs.Checks.{Lowest}
 use Rattle.echelon.specs.Rows.{CodedRow}
-use Rattle.echelon.specs.Reduced.{Pivoted, at, figured, Alone, Reduced}
-use Rattle.echelon.specs.Elimination.{cleared, pivot_cleared}
+use Rattle.echelon.specs.Reduced.{Pivoted, at, figured, Alone, Reduced, NoneAlone}
+use Rattle.echelon.specs.Elimination.{cleared, pivot_cleared, AloneWith}
 use Rattle.echelon.proofs.Values.{less_none}
-use Rattle.record.specs.Shapes.{NoneAlone}
-use Rattle.record.specs.Judged.{AloneWith}
 
 -- a weight beside the pivot, and none
 pub not_alone : (n : ℕ) (w : Vector) (i p : ℕ) → p < n → p ≢ i → w p ≢ 0 → Alone n w i → ⊥

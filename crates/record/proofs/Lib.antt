@@ -1,14 +1,9 @@
-pub mod Checks
-pub mod Weights
 pub mod Parts
 pub mod Views
 pub mod Alone
 pub mod Join
 pub mod Shaped
-pub mod Judging
 pub mod Standing
 pub mod Verdict
 pub mod Admitting
-pub mod Witnessing
-pub mod Padding
 pub mod Told

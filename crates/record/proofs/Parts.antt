@@ -5,7 +5,7 @@ use borrow.Rule.Slice.PartMut.{mid_of, post_of, put_mid}
 use Rattle.std.proofs.lemmas.List.{get_or_append_left, get_or-append-add, get_or-take, get_or-drop, length-drop, length-take-le}
 use Rattle.field.specs.Sums.{weights_of}
 use Rattle.field.specs.declared.Element.{Element}
-use Rattle.record.proofs.Weights.{zero_element}
+use Rattle.checks.proofs.Weights.{zero_element}
 
 -- xs is the row before the loop, and ys the part after it
 module _

@@ -1,8 +1,7 @@
 -- What the type of a record asks, from reduced echelon form. Assumes nothing.
 use Rattle.std.proofs.Common.{◌≡◌, ℕ, zero, suc, ◌<◌, ◌≤◌, List, length, sym, ap, ◌∙◌, arith}
 use Rattle.field.specs.Model.{FieldModel}
-use Rattle.echelon.specs.Reduced.{Pivoted, at, Reduced, Same}
-use Rattle.record.specs.Shapes.{NoneAlone}
+use Rattle.echelon.specs.Reduced.{Pivoted, at, Reduced, Same, NoneAlone}
 
 -- pivots that rise below n are at most n
 pub few-rows : (M : FieldModel) (n : ℕ) (rec : List Pivoted) → Reduced M n rec → length rec ≤ n

@@ -4,15 +4,15 @@ use Rattle.field.specs.Model.{FieldModel, FieldLaws}
 use Rattle.field.specs.Sums.{Vector}
 use Rattle.server.specs.Checks.{Lowest}
 use Rattle.echelon.specs.Rows.{Figured, CodedRow}
-use Rattle.echelon.specs.Reduced.{Pivoted, at, figured, Alone, Reduced}
-use Rattle.echelon.specs.Elimination.{leftover, scaled}
+use Rattle.echelon.specs.Reduced.{Pivoted, at, figured, Alone, Reduced, PinnedWith}
+use Rattle.echelon.specs.Elimination.{leftover, scaled, AloneWith}
 use Rattle.echelon.proofs.Values.{all_codes, leftover-codes, times_nothing}
 use Rattle.record.specs.Rows.{pivoted, SameRow}
-use Rattle.record.specs.Judged.{PinnedWith, AloneWith, SamePivoted}
+use Rattle.record.specs.Judged.{SamePivoted}
 use Rattle.record.specs.Standings.{Left, fresh_row}
 use Rattle.record.specs.declared.rows.RecordRow.{RecordRow}
 use Rattle.record.proofs.Join.{cleared_by_same, turned}
-use Rattle.record.proofs.Judging.{own, others, pinned_stands-alone, alone_is_pinned}
+use Rattle.echelon.proofs.Judging.{own, others, pinned_stands-alone, alone_is_pinned}
 
 alone-same : (n : ℕ) (w v : Vector) (i : ℕ) → i < n → ((m : ℕ) → m < n → w m ≡ v m) → Alone n w i → Alone n v i
 alone-same n w v i h same alone = (λ z. alone.0 (same i h ∙ z), λ m b ne. sym (same m b) ∙ alone.1 m b ne)

@@ -6,21 +6,16 @@ use Rattle.field.specs.declared.Element.{Element}
 use Rattle.field.proofs.Zero.{zero-code}
 use Rattle.refusal.specs.declared.Member.{Member}
 use Rattle.echelon.specs.Reduced.{Pivoted, Reduced}
-use Rattle.record.specs.Checks.{RowCheck, accepted}
-use Rattle.record.specs.Judged.{Judged, given_row}
+use Rattle.checks.specs.Checks.{RowCheck, accepted}
+use Rattle.record.specs.Judged.{Judged}
+use Rattle.echelon.specs.Rows.{given_row}
 use Rattle.record.specs.Judged as judged
 use Rattle.record.specs.Standings as standings
 use Rattle.record.specs.Standings.{Stands}
 use Rattle.record.specs.declared.judge.Judgement.TheVariants as Judgement
 use Rattle.record.specs.declared.judge.Standing.TheVariants as Standing
 use Rattle.record.specs.declared.rows.RecordRow.{RecordRow}
-use Rattle.record.proofs.Judging.{nothing_fixes, not_fixed, fixed-figure}
-
-pub row_length_lem : (M : FieldModel) (n : ℕ) (ws : List Element) → RowCheck M n ws None → length ws ≡ n
-row_length_lem M n ws (accepted len codes named) = len
-
-pub row-codes : (M : FieldModel) (n : ℕ) (ws : List Element) → RowCheck M n ws None → Codes M n (weights_of ws)
-row-codes M n ws (accepted len codes named) = codes
+use Rattle.echelon.proofs.Judging.{nothing_fixes, not_fixed, fixed-figure}
 
 module _ (M : FieldModel) (L : FieldLaws M) (n : ℕ) (rec : List Pivoted) (R : Reduced M n rec) (ws : List Element) (cr : Codes M n (weights_of ws)) where
   pub judged-fixed :

@@ -3,7 +3,6 @@
 --   PivotsBelow, PivotsRise     each pivot is a member; pivots rise from row to row
 --   OwnPivot, LowestNamed       each row has 1 at its pivot, and 0 below it
 --   OtherPivots                 each row has 0 at the pivots of the others
---   NoneAlone                   no row names its pivot alone
 --   AllCoded M n rec            weights and figures are elements
 -- Assumes nothing.
 use Rattle.std.specs.Prelude.{◌≡◌, ℕ, ◌<◌, ◌≢◌, List, map, length}
@@ -30,9 +29,6 @@ LowestNamed rec = (a m : ℕ) → (a < length rec) × (m < (at rec a).pivot) →
 
 abbrev pub OtherPivots : List Pivoted → Type 0
 OtherPivots rec = (a b : ℕ) → (a < length rec) × (b < length rec) × (a ≢ b) → (at rec a).weights (at rec b).pivot ≡ 0
-
-abbrev pub NoneAlone : ℕ → List Pivoted → Type 0
-NoneAlone n rec = (a : ℕ) → a < length rec → Alone n (at rec a).weights (at rec a).pivot → ⊥
 
 abbrev pub AllCoded : FieldModel → ℕ → List Pivoted → Type 0
 AllCoded M n rec = (a : ℕ) → a < length rec → CodedRow M n (figured (at rec a))

@@ -7,10 +7,10 @@ use Rattle.std.specs.Prelude.{◌≡◌, ℕ, ◌<◌, ◌≢◌, List}
 use Rattle.field.specs.Model.{FieldModel}
 use Rattle.server.specs.Checks.{Lowest}
 use Rattle.echelon.specs.Rows.{Figured, CodedRow}
-use Rattle.echelon.specs.Reduced.{Pivoted, figured}
+use Rattle.echelon.specs.Reduced.{Pivoted, figured, PinnedWith}
 use Rattle.echelon.specs.Elimination.{leftover, scaled, with_pivot}
 use Rattle.record.specs.Rows.{pivoted}
-use Rattle.record.specs.Judged.{PinnedWith, SamePivoted}
+use Rattle.record.specs.Judged.{SamePivoted}
 use Rattle.record.specs.declared.rows.RecordRow.{RecordRow}
 use Rattle.record.specs.declared.judge.Standing.{Standing}
 use Rattle.record.specs.declared.judge.Standing.TheVariants.{Fixed, Pinning, Fresh}

@@ -9,4 +9,4 @@ mod rows;
 pub use judge::{Admission, Judgement};
 pub use record::Record;
 pub use room::Room;
-pub use rows::{FiguredRow, RecordRow, RowNumber, check_row, padded};
+pub use rows::{FiguredRow, RecordRow, RowNumber};

@@ -1,6 +1,7 @@
 // The record itself. What holds of every record stands in its type.
 ghost use Rattle.std.specs.Prelude.{◌≤◌, vec_capacity};
-ghost use Rattle.record.specs.Shapes.{all_pivoted, PivotsBelow, PivotsRise, OwnPivot, LowestNamed, OtherPivots, NoneAlone, AllCoded};
+ghost use Rattle.record.specs.Shapes.{all_pivoted, PivotsBelow, PivotsRise, OwnPivot, LowestNamed, OtherPivots, AllCoded};
+ghost use Rattle.echelon.specs.Reduced.{NoneAlone};
 
 use crate::rows::RecordRow;
 use field::Field;

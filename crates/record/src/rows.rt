@@ -20,10 +20,6 @@ pub struct RecordRow {
     pub row: FiguredRow,
 }
 
-mod checks;
-mod padding;
 mod steps;
 
-pub use checks::check_row;
-pub use padding::padded;
 pub use steps::minus;

@@ -9,8 +9,8 @@ use Rattle.server.specs.Checks.{Count}
 use Rattle.server.specs.Tables.{value_at}
 use Rattle.echelon.specs.Rows.{Figured}
 use Rattle.echelon.proofs.Tables.{witness-fits}
-use Rattle.record.specs.Checks as checks
-use Rattle.record.specs.Checks.{RowCheck, WitnessCheck}
+use Rattle.checks.specs.Checks as checks
+use Rattle.checks.specs.Checks.{RowCheck, WitnessCheck}
 use Rattle.history.specs.Events.{Reply, Event, Start, Call, submits, answers, permits, gives, refused}
 use Rattle.history.specs.Law.{Due, permit_open, permits_spent, bad_row, discloses, granted, answer_refused, answered_with, withdrawal_refused, withdrawn, witness_refused, witness_filled, Lawful, goes_on}
 use Rattle.history.specs.Theorems.{Sane}

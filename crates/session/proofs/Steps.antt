@@ -13,19 +13,18 @@ use Rattle.field.specs.Sums.{Vector, sum, weights_of}
 use Rattle.field.specs.declared.Element.{Element}
 use Rattle.server.specs.Checks.{Lowest}
 use Rattle.server.specs.Tables.{value_at, codes}
-use Rattle.echelon.specs.Rows.{Figured, rows_of, RowsCodes, Fixes}
-use Rattle.echelon.specs.Reduced.{Pivoted, at, Alone, Reduced, ReducedForm}
+use Rattle.echelon.specs.Rows.{Figured, rows_of, RowsCodes, Fixes, given_row}
+use Rattle.echelon.specs.Reduced.{Pivoted, at, Alone, Reduced, ReducedForm, NoneAlone, record_rows, PinnedWith}
 use Rattle.echelon.specs.Witness.{Witness}
 use Rattle.echelon.proofs.Tables.{pinned_alone_lem}
-use Rattle.record.specs.Checks.{RowCheck, WitnessCheck}
-use Rattle.record.specs.Shapes.{NoneAlone}
+use Rattle.checks.specs.Checks.{RowCheck, WitnessCheck}
 use Rattle.record.specs.Judged as judged
-use Rattle.record.specs.Judged.{Judged, record_rows, PinnedWith, given_row, Adds}
+use Rattle.record.specs.Judged.{Judged, Adds}
 use Rattle.record.specs.declared.judge.Judgement.{Judgement}
 use Rattle.record.specs.declared.judge.Judgement.TheVariants.{Pinning}
 use Rattle.refusal.specs.declared.Member.{Member}
 use Rattle.record.specs.Records.{rec_of}
-use Rattle.record.proofs.Verdict.{row-codes}
+use Rattle.checks.proofs.Passed.{row-codes}
 use Rattle.history.proofs.ByRecord.{pinned_with, lowest_pinned_by}
 use Rattle.history.specs.Events as events
 use Rattle.history.specs.Events.{Start, Event, Call, Reply, submits, answers, withdraws, witnesses, permits, gives, takes_back, fills, refuses, refused, issued, open_row, open_after, given}

@@ -10,7 +10,7 @@ use Rattle.server.specs.Tables.{codes}
 use Rattle.echelon.specs.Rows.{Fits}
 use Rattle.echelon.specs.Reduced.{Pivoted, all_figured}
 use Rattle.echelon.specs.Witness.{Witness}
-use Rattle.record.specs.Checks.{WitnessCheck, no_such_member, not_an_element, wrong_length, accepted}
+use Rattle.checks.specs.Checks.{WitnessCheck, no_such_member, not_an_element, wrong_length, accepted}
 use Rattle.record.specs.Records.{rec_of}
 use Rattle.history.specs.Events.{witnesses}
 use Rattle.session.specs.Views.{Steps, witness_reply_lem}

@@ -8,7 +8,7 @@ use Rattle.amounts.specs.Inverse.{found}
 use Rattle.echelon.specs.Rows.{Pins, Fixes}
 use Rattle.echelon.specs.Reduced.{at, Reduced, ReducedForm}
 use Rattle.echelon.specs.Witness.{Free, base, direction, Leads, from_free, from_pivot, Witness}
-use Rattle.record.specs.Checks as check
+use Rattle.checks.specs.Checks as check
 use Rattle.history.specs.Events.{new_session, given, submits, witnesses, fills, refuses}
 use Rattle.history.specs.Law.{PinnedBy, Due, Lawful, begins}
 use Rattle.history.specs.Law as law

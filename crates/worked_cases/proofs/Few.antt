@@ -6,8 +6,8 @@ use Rattle.field.specs.declared.Element.{Element}
 use Rattle.server.specs.Checks.{Lowest}
 use Rattle.server.specs.Tables.{value_at}
 use Rattle.echelon.specs.Rows.{Figured, rows_of, Agree}
-use Rattle.record.specs.Checks.{RowCheck}
-use Rattle.record.specs.Checks as check
+use Rattle.checks.specs.Checks.{RowCheck}
+use Rattle.checks.specs.Checks as check
 use Rattle.history.specs.Events.{Event, new_session, issued, given, submits, answers, permits, gives}
 use Rattle.history.specs.Law.{PinnedBy, Ready, Due, Lawful, goes_on}
 use Rattle.history.specs.Law as law

@@ -1,13 +1,13 @@
 // What the record is asked: how a row stands to it, to admit one, and the witness.
 ghost use Rattle.std.specs.Prelude.{◌≡◌, length, Some, None, MatchResult};
 ghost use Rattle.field.specs.Sums.{weights_of};
-ghost use Rattle.record.specs.Checks.{RowCheck};
+ghost use Rattle.checks.specs.Checks.{RowCheck};
 ghost use Rattle.record.specs.Records.{rec_of};
 ghost use Rattle.record.specs.Judged.{Judged, Admitted};
 
 use crate::judge::{Admission, Judgement, Standing};
 use crate::record::Record;
-use crate::rows::check_row;
+use checks::check_row;
 use field::{Element, Field};
 use refusal::{Refusal, Site};
 

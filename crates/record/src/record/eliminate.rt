@@ -2,12 +2,11 @@
 ghost use Rattle.std.specs.Prelude.{◌≡◌, ℕ, ◌<◌, ◌≤◌, ◌≢◌, length, MatchOption};
 ghost use Rattle.field.specs.Sums.{weights_of};
 ghost use Rattle.server.specs.Checks.{Lowest};
-ghost use Rattle.echelon.specs.Rows.{CodedRow};
+ghost use Rattle.echelon.specs.Rows.{CodedRow, given_row};
 ghost use Rattle.echelon.specs.Reduced.{at, figured};
-ghost use Rattle.echelon.specs.Elimination.{leftover, scaled};
+ghost use Rattle.echelon.specs.Elimination.{leftover, scaled, AloneWith};
 ghost use Rattle.record.specs.Rows.{figured_row, pivoted, SameRow};
 ghost use Rattle.record.specs.Records.{rec_of};
-ghost use Rattle.record.specs.Judged.{given_row, AloneWith};
 ghost use Rattle.record.specs.Standings.{Stands};
 
 use crate::judge::Standing;

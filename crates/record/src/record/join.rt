@@ -2,10 +2,10 @@
 ghost use Rattle.std.specs.Prelude.{◌≡◌, ℕ, ◌<◌, ◌≤◌, length, vec_len, vec_capacity};
 ghost use Rattle.field.specs.Sums.{weights_of};
 ghost use Rattle.echelon.specs.Rows.{CodedRow};
-ghost use Rattle.echelon.specs.Reduced.{at, figured, Reduced, Same};
+ghost use Rattle.echelon.specs.Reduced.{at, figured, Reduced, Same, NoneAlone};
 ghost use Rattle.echelon.specs.Elimination.{pivot_cleared, joined};
 ghost use Rattle.record.specs.Rows.{pivoted, figured_record_row};
-ghost use Rattle.record.specs.Shapes.{all_pivoted, NoneAlone};
+ghost use Rattle.record.specs.Shapes.{all_pivoted};
 ghost use Rattle.record.specs.Records.{rec_of};
 ghost use Rattle.record.specs.Judged.{SamePivoted};
 

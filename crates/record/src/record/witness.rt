@@ -4,7 +4,7 @@ ghost use Rattle.field.specs.Sums.{Codes, weights_of};
 ghost use Rattle.echelon.specs.Rows.{Fits};
 ghost use Rattle.echelon.specs.Reduced.{all_figured};
 ghost use Rattle.echelon.specs.Witness.{Free, base, direction, Leads, Witness};
-ghost use Rattle.record.specs.Checks.{WitnessCheck};
+ghost use Rattle.checks.specs.Checks.{WitnessCheck};
 ghost use Rattle.record.specs.Records.{rec_of};
 
 use crate::record::Record;

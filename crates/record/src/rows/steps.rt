@@ -5,7 +5,8 @@ ghost use Rattle.echelon.specs.Rows.{CodedRow};
 ghost use Rattle.echelon.specs.Elimination.{cleared, scaled};
 ghost use Rattle.record.specs.Rows.{figured_row, pivoted, figured_record_row, SameRow};
 
-use crate::rows::{FiguredRow, RecordRow, padded};
+use crate::rows::{FiguredRow, RecordRow};
+use checks::padded;
 use field::{Element, Field};
 use refusal::Member;
 

@@ -7,8 +7,9 @@ ghost use Rattle.session.specs.declared.session.OpenRow.{OpenRow};
 ghost use Rattle.session.specs.Views.{Steps, permit_reply, figure_reply, withdrawal_reply, witness_reply_lem};
 
 use crate::session::{OpenRow, Session};
+use checks::padded;
 use field::Element;
-use record::{Judgement, padded};
+use record::Judgement;
 use refusal::{Member, Refusal, Site};
 use server::{Server, row_sum};
 

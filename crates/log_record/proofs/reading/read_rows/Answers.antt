@@ -2,10 +2,9 @@
 use Rattle.std.proofs.Common.{◌≡◌, ℕ, ◌+◌, ◌<◌, ◌≤◌, List, [], ◌∷◌, length, get_or, take, drop, Some, None, sym, ap, ◌∙◌, subst, arith, rules}
 use Rattle.std.specs.Iterator.Adapters.{enumerate_source, enumerate_count}
 use Rattle.std.proofs.lemmas.Result.{err_from_is_err_and}
-use Rattle.record.specs.Checks.{RowCheck}
-use Rattle.record.specs.Judged.{given_row}
+use Rattle.checks.specs.Checks.{RowCheck}
+use Rattle.echelon.specs.Rows.{given_row, Figured}
 use Rattle.record.specs.Records.{rec_of}
-use Rattle.echelon.specs.Rows.{Figured}
 use Rattle.answer_log.proofs.Logs.{row_count, cut_reads}
 use Rattle.answer_log.proofs.Steps.{whole_still, count-still, left_within, row_read, next-place, row_bad}
 use Rattle.log_record.specs.Joins.{JoinCheck, RowsJoin, Recorded}

@@ -1,7 +1,7 @@
 -- Answers for `read_weights`: the lowest fault, or none, and the weights.
 use Rattle.std.proofs.Common.{◌≡◌, ℕ, ◌<◌, ◌≢◌, length, set, sym, refl, ap, ◌∙◌, arith, length-set, below_more, rules}
 use Rattle.field.specs.Sums.{weights_of}
-use Rattle.record.proofs.Weights.{written, unwritten, zeros}
+use Rattle.checks.proofs.Weights.{written, unwritten, zeros}
 use Rattle.answer_log.proofs.Again.{unnamed_weight}
 use Rattle.answer_log.proofs.Readers.{bit_is, no_fault, unnamed_no_fault, value_refused}
 use Rattle.answer_log.proofs.reading.RowBytes.read_weights.Goals as goal

@@ -1,10 +1,11 @@
 use Rattle.std.proofs.Common.{◌<◌, refl, arith}
 use Rattle.std.proofs.lemmas.Result.{err_from_is_err_and}
-use Rattle.echelon.specs.Rows.{CodedRow}
+use Rattle.echelon.specs.Rows.{CodedRow, given_row}
 use Rattle.record.specs.Records.{rec_of}
-use Rattle.record.specs.Judged.{given_row, bad_row, no_figure, kept, discloses, joined}
+use Rattle.record.specs.Judged.{bad_row, no_figure, kept, discloses, joined}
 use Rattle.record.proofs.Views.{reduced_of}
-use Rattle.record.proofs.Verdict.{row_length_lem, row-codes, judged-pinning, judged-free}
+use Rattle.checks.proofs.Passed.{row_length_lem, row-codes}
+use Rattle.record.proofs.Verdict.{judged-pinning, judged-free}
 use Rattle.record.proofs.Admitting.{kept-adds, fixed-row, fresh_facts, joined-reduced, joined_none_alone, after_reduced, after_fits, after_adds}
 use Rattle.record.proofs.record.Record.admit.Goals as goal
 

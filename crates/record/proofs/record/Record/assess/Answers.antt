@@ -1,6 +1,6 @@
 use Rattle.std.proofs.Common.{sym, ◌∙◌}
 use Rattle.record.specs.Rows.{figured_row}
-use Rattle.record.specs.Judged.{given_row}
+use Rattle.echelon.specs.Rows.{given_row}
 use Rattle.record.specs.Records.{rec_of}
 use Rattle.record.specs.Standings.{fixed, pinning, fresh}
 use Rattle.record.proofs.Views.{reduced_of}

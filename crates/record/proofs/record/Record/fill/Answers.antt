@@ -5,8 +5,8 @@ use Rattle.field.specs.Sums.{weights_of}
 use Rattle.echelon.specs.Reduced.{at}
 use Rattle.record.specs.Records.{rec_of}
 use Rattle.record.proofs.Views.{facts_of, reduced_of, no_record_row}
-use Rattle.record.proofs.Weights.{written, unwritten}
-use Rattle.record.proofs.Witnessing.{target, target_pivot, target_self, target_other, target_all, apart}
+use Rattle.checks.proofs.Weights.{written, unwritten}
+use Rattle.echelon.proofs.Witnessing.{target, target_pivot, target_self, target_other, target_all, apart}
 use Rattle.record.proofs.record.Record.fill.Goals as goal
 
 pub loop-row-init : goal.loop-row-init

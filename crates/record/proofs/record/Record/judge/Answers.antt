@@ -1,10 +1,11 @@
 use Rattle.std.proofs.Common.{arith}
-use Rattle.record.specs.Judged.{given_row}
+use Rattle.echelon.specs.Rows.{given_row}
 use Rattle.record.specs.Records.{rec_of}
 use Rattle.record.specs.Standings.{Stands}
 use Rattle.record.specs.declared.judge.Standing.TheVariants as Standing
 use Rattle.record.proofs.Views.{reduced_of}
-use Rattle.record.proofs.Verdict.{row_length_lem, row-codes, judged-fixed, judged-pinning, judged-free}
+use Rattle.checks.proofs.Passed.{row_length_lem, row-codes}
+use Rattle.record.proofs.Verdict.{judged-fixed, judged-pinning, judged-free}
 use Rattle.record.proofs.record.Record.judge.Goals as goal
 
 pub assess-requires : goal.assess-requires

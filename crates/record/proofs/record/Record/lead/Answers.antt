@@ -8,7 +8,7 @@ use Rattle.record.specs.Rows.{pivoted}
 use Rattle.record.specs.declared.rows.RecordRow.{RecordRow}
 use Rattle.record.specs.Records.{rec_of}
 use Rattle.record.proofs.Views.{RowFacts, read_facts, reduced_of, searched}
-use Rattle.record.proofs.Witnessing.{leads-pivot}
+use Rattle.echelon.proofs.Witnessing.{leads-pivot}
 use Rattle.record.proofs.record.Record.lead.Goals as goal
 use Rattle.record.proofs.record.Record.lead.Goals.{After-binary_search_by_key, After-lowest_other}
 

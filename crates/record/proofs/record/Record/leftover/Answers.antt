@@ -1,12 +1,11 @@
 use Rattle.std.proofs.Common.{◌≡◌, ◌+◌, List, get_or, take, sym, ap, ◌∙◌, subst, add-one, arith, take_all}
 use lib.ListN.{length-map}
-use Rattle.echelon.specs.Rows.{Figured}
+use Rattle.echelon.specs.Rows.{Figured, given_row}
 use Rattle.echelon.specs.Reduced.{Pivoted}
 use Rattle.echelon.specs.Elimination.{cleared, leftover}
 use Rattle.echelon.proofs.Leftover.{leftover-next}
 use Rattle.record.specs.Rows.{figured_row, pivoted, SameRow}
 use Rattle.record.specs.Records.{rec_of}
-use Rattle.record.specs.Judged.{given_row}
 use Rattle.record.proofs.Views.{facts_of, cleared-same, same_trans, no_record_row, leftover-same}
 use Rattle.record.proofs.record.Record.leftover.Goals as goal
 

@@ -5,7 +5,7 @@ use Rattle.echelon.specs.Reduced.{at}
 use Rattle.refusal.specs.declared.Member.{Member}
 use Rattle.record.specs.Rows.{pivoted}
 use Rattle.record.specs.Records.{rec_of}
-use Rattle.record.specs.Judged.{AloneWith}
+use Rattle.echelon.specs.Elimination.{AloneWith}
 use Rattle.record.proofs.Views.{facts_of, reduced_of, no_record_row}
 use Rattle.record.proofs.Alone.{alone-found, alone_missed, row_is_lowest, fresh_is_lowest, none_is, not_alone}
 use Rattle.record.proofs.Told.{none_told, some_told, told_of}

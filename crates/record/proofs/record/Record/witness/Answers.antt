@@ -2,7 +2,7 @@ use Rattle.std.proofs.Common.{◌<◌, refl, arith}
 use Rattle.field.specs.Sums.{weights_of}
 use Rattle.echelon.specs.Witness.{Witness}
 use Rattle.echelon.proofs.Tables.{witness-fits}
-use Rattle.record.specs.Checks.{no_such_member, not_an_element, wrong_length, accepted}
+use Rattle.checks.specs.Checks.{no_such_member, not_an_element, wrong_length, accepted}
 use Rattle.record.specs.Records.{rec_of}
 use Rattle.record.proofs.Views.{reduced_of}
 use Rattle.record.proofs.record.Record.witness.Goals as goal

@@ -3,7 +3,8 @@ use Rattle.std.proofs.lemmas.Result.{err_from_is_err_and}
 use Rattle.field.specs.Sums.{sum, weights_of}
 use Rattle.field.specs.declared.Element.{Element}
 use Rattle.server.specs.Tables.{value_at}
-use Rattle.record.specs.Judged.{Admitted, Adds, given_row}
+use Rattle.record.specs.Judged.{Admitted, Adds}
+use Rattle.echelon.specs.Rows.{given_row}
 use Rattle.record.specs.Records.{rec_of}
 use Rattle.session.specs.Granted.{Granted}
 use Rattle.session.specs.declared.session.OpenRow.{OpenRow}

@@ -3,11 +3,12 @@ use Rattle.std.proofs.lemmas.Result.{err_from_is_err_and}
 use Rattle.field.specs.Sums.{weights_of}
 use Rattle.field.specs.declared.Element.{Element}
 use Rattle.server.specs.Checks.{Lowest}
-use Rattle.record.specs.Checks.{RowCheck}
-use Rattle.record.specs.Judged.{Judged, PinnedWith}
+use Rattle.checks.specs.Checks.{RowCheck}
+use Rattle.record.specs.Judged.{Judged}
+use Rattle.echelon.specs.Reduced.{PinnedWith}
 use Rattle.record.specs.Records.{rec_of}
 use Rattle.record.proofs.Views.{reduced_of}
-use Rattle.record.proofs.Verdict.{row_length_lem}
+use Rattle.checks.proofs.Passed.{row_length_lem}
 use Rattle.session.proofs.Admitted.{pinned_lowest}
 use Rattle.session.proofs.Steps.{submit_open_steps, submit_spent_steps, submit_bad_steps, submit_disclosing_steps, granted-steps, judged-free_of}
 use Rattle.session.proofs.session.Session.submit_row.Goals as goal

@@ -3,7 +3,7 @@ use Rattle.std.proofs.lemmas.Result.{err_from_is_err_and}
 use Rattle.field.specs.Sums.{weights_of}
 use Rattle.field.specs.declared.Element.{Element}
 use Rattle.echelon.specs.Witness.{Witness}
-use Rattle.record.specs.Checks.{WitnessCheck}
+use Rattle.checks.specs.Checks.{WitnessCheck}
 use Rattle.record.specs.Records.{rec_of}
 use Rattle.history.specs.Events.{witnesses, fills}
 use Rattle.server.specs.Tables.{codes}

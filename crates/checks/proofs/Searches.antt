@@ -7,8 +7,8 @@ use Rattle.field.specs.Model.{FieldModel}
 use Rattle.field.specs.Sums.{Codes, weights_of}
 use Rattle.field.specs.declared.Element.{Element}
 use Rattle.server.specs.Checks.{Lowest}
-use Rattle.record.specs.Checks.{StrayWeight, NoneNamed}
-use Rattle.record.proofs.Weights.{zero_element}
+use Rattle.checks.specs.Checks.{StrayWeight, NoneNamed}
+use Rattle.checks.proofs.Weights.{zero_element}
 
 -- weights of which none is stray are elements
 pub none_stray :

@@ -1,6 +1,6 @@
 // The checks of a row's weights.
 ghost use Rattle.std.specs.Prelude.{◌≡◌, ℕ, ◌<◌, length, Some, None, MatchResult};
-ghost use Rattle.record.specs.Checks.{RowCheck};
+ghost use Rattle.checks.specs.Checks.{RowCheck};
 
 use field::{Element, Field};
 use refusal::{Member, Refusal, Site};

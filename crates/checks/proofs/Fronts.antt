@@ -4,7 +4,7 @@ use native.Mathlib.Decide.{dec_lt}
 use Rattle.std.proofs.lemmas.List.{get_or-drop, get_or-append_right, get_or_append_left, get_or-take, take_at}
 use Rattle.field.specs.Sums.{weights_of}
 use Rattle.field.specs.declared.Element.{Element}
-use Rattle.record.proofs.Weights.{past_end, zero_element, zeros}
+use Rattle.checks.proofs.Weights.{past_end, zero_element, zeros}
 
 -- the places past them are as they began
 pub zero_past :

@@ -4,14 +4,13 @@ use native.Mathlib.Decide.{ℕ_discrete, dec_lt}
 use Rattle.field.specs.Model.{FieldModel, FieldLaws}
 use Rattle.field.specs.Sums.{Vector, Codes, minus, sum}
 use Rattle.echelon.specs.Rows.{Figured, Agree, Fits, Fixes, CodedRow}
-use Rattle.echelon.specs.Reduced.{Pivoted, at, all_figured, Alone, Reduced}
-use Rattle.echelon.specs.Elimination.{leftover, scaled, with_pivot, pivot_cleared, joined}
+use Rattle.echelon.specs.Reduced.{Pivoted, at, all_figured, Alone, Reduced, record_rows, PinnedWith, FixedFigure}
+use Rattle.echelon.specs.Elimination.{leftover, scaled, with_pivot, pivot_cleared, joined, AloneWith}
 use Rattle.field.proofs.Zero.{zero-code, zero_right}
 use Rattle.echelon.proofs.Codes.{sum_none, sum_below}
 use Rattle.echelon.proofs.Tables.{pinned_alone_lem}
 use Rattle.echelon.proofs.Leftover.{leftover-fits, fixed-leaves_nothing}
 use Rattle.echelon.proofs.Joined.{put-length, spot, Spot, new, old, kept_spot, put_here, joined-form, fresh-own, fresh-pivot}
-use Rattle.record.specs.Judged.{record_rows, PinnedWith, AloneWith, FixedFigure}
 
 module _ (M : FieldModel) (L : FieldLaws M) (n : ℕ) (rec : List Pivoted) (R : Reduced M n rec) (g : Figured) (cg : CodedRow M n g) where
   abbrev pub left : Figured

@@ -1,6 +1,6 @@
 use Rattle.std.proofs.Common.{◌≡◌, min, length, arith}
-use Rattle.record.proofs.Padding.{padded_front, padded_rest, padded_each}
-use Rattle.record.proofs.rows.padding.padded.Goals as goal
+use Rattle.checks.proofs.Fronts.{padded_front, padded_rest, padded_each}
+use Rattle.checks.proofs.padding.padded.Goals as goal
 
 pub returns : goal.returns
 returns c =

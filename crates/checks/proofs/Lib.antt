@@ -1,0 +1,6 @@
+pub mod Weights
+pub mod Fronts
+pub mod Searches
+pub mod Passed
+pub mod Searching
+pub mod Checked

@@ -1,0 +1,12 @@
+-- What a row that passed its checks has. Assumes nothing.
+use Rattle.std.proofs.Common.{◌≡◌, ℕ, List, length, None}
+use Rattle.field.specs.Model.{FieldModel}
+use Rattle.field.specs.Sums.{Codes, weights_of}
+use Rattle.field.specs.declared.Element.{Element}
+use Rattle.checks.specs.Checks.{RowCheck, accepted}
+
+pub row_length_lem : (M : FieldModel) (n : ℕ) (ws : List Element) → RowCheck M n ws None → length ws ≡ n
+row_length_lem M n ws (accepted len codes named) = len
+
+pub row-codes : (M : FieldModel) (n : ℕ) (ws : List Element) → RowCheck M n ws None → Codes M n (weights_of ws)
+row-codes M n ws (accepted len codes named) = codes

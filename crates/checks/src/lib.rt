@@ -1,0 +1,8 @@
+// What a call passes before it is judged: the checks of a row and of a witness call, in their order.
+#![tactic(auto)]
+
+mod padding;
+mod rows;
+
+pub use padding::padded;
+pub use rows::check_row;
