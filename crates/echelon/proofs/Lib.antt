@@ -11,3 +11,4 @@ pub mod Given
 pub mod Judging
 pub mod Witnessing
 pub mod Own
+pub mod ByForm

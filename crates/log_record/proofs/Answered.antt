@@ -1,59 +1,48 @@
 -- What a new session answered is in order. Assumes nothing.
-use Rattle.std.proofs.Common.{ℕ, ◌<◌, List, [], ◌∷◌, ◌++◌, None, Option, sym, refl, subst, arith}
-use Rattle.std.proofs.lemmas.List.{append-nil}
+use Rattle.std.proofs.Common.{◌≡◌, ℕ, ◌<◌, List, [], ◌∷◌, ◌++◌, length, None, Option, sym, refl, subst}
 use Rattle.field.specs.Model.{FieldModel, FieldLaws}
-use Rattle.field.specs.Sums.{Vector, Codes, sum, weights_of}
-use Rattle.field.specs.declared.Element.{Element}
-use Rattle.echelon.specs.Rows.{Figured, Fits, given_row}
-use Rattle.checks.specs.Checks as checks
-use Rattle.checks.specs.Checks.{RowCheck}
-use Rattle.checks.proofs.Weights.{past_end}
-use Rattle.history.specs.Events.{Call, Reply, Event, OpenRow, new_session, with_figure, newly_answered, open_row, answered, given}
-use Rattle.history.specs.Law.{PinnedBy, Due, permit_open, permits_spent, bad_row, discloses, granted, answer_refused, answered_with, withdrawal_refused, withdrawn, witness_refused, witness_filled, Lawful}
-use Rattle.history.proofs.Facts.{After, before, last_due, after, table_fits, figure_code, new_sane}
-use Rattle.log_record.specs.Theorems.{RowFine, InOrder, AnsweredIsAccepted}
+use Rattle.field.specs.Sums.{Vector, sum}
+use Rattle.server.specs.Tables.{Table, value_at}
+use Rattle.echelon.specs.Rows.{Figured}
+use Rattle.echelon.proofs.Codes.{sum_below}
+use Rattle.law.specs.States.{OpenRow, State, new_state, Event, with_figure, after}
+use Rattle.law.specs.Law.{Due, refuses, grants, figures, takes_back, fills, Lawful, ends, goes_on}
+use Rattle.law.specs.Sound.{Sound, TrueFigures}
+use Rattle.law.proofs.Facts.{stays_sound_lem, new_is_sound_lem, true_after, last_table}
+use Rattle.log_record.specs.Theorems.{InOrder, AnsweredIsAccepted}
 use Rattle.log_record.proofs.Written.{written_is_accepted_lem}
 
-module _ (M : FieldModel) (L : FieldLaws M) (n : ℕ) (t : Vector) (ct : Codes M n t) where
-  -- a row that passed its checks is one that a log can hold
-  checked_fine : (ws : List Element) (f : ℕ) → RowCheck M n ws None → f < M.size → RowFine M n (given_row ws f)
-  checked_fine ws f (checks.accepted long codes some) small = record {
-    weights = codes;
-    none_past = λ m h. past_end ws m (omega arith);
-    some_named = λ none. some (λ m h. none m (omega arith));
-    figure = small;
-  }
-
+module _ (M : FieldModel) (L : FieldLaws M) where
+  -- an answered row is one that a log can hold after those before it
   order_one :
-      (h : List Event) (c : Call) (r : Reply) → After M n new_session h → Fits M n (answered h) t → InOrder M n (answered h)
-      → Due M n t new_session h c r → InOrder M n (newly_answered r (open_row h) ++ answered h)
-  order_one h c r known fits order (permit_open ws p) = order
-  order_one h c r known fits order (permits_spent ws p q) = order
-  order_one h c r known fits order (bad_row ws e ready check) = order
-  order_one h c r known fits order (discloses ws i ready check low) = order
-  order_one h c r known fits order (granted ws ready check none) = order
-  order_one h c r known fits order (answer_refused k not) = order
-  order_one h c r known fits order (answered_with k o is same) =
-      let v = sum M n (weights_of o.weights) t in
-      let facts = known.open_facts o is in
-      let none : (i : ℕ) → PinnedBy M n (answered h) o.weights i → ⊥ =
-      subst (λ (all : List Figured). (i : ℕ) → PinnedBy M n all o.weights i → ⊥) (append-nil (answered h)) facts.none_pinned in
-      let small = figure_code M L n t ct new_session o (given new_session h) facts in
-      subst (λ (x : Option OpenRow). InOrder M n (with_figure v x ++ answered h)) (sym is)
-      (checked_fine o.weights v facts.checked small, none, λ (fixes, never). never t ct fits refl, order)
-  order_one h c r known fits order (withdrawal_refused k not) = order
-  order_one h c r known fits order (withdrawn k o is same) = order
-  order_one h c r known fits order (witness_refused i a l e check) = order
-  order_one h c r known fits order (witness_filled i a l rec w check form len wit) = order
+      (σ : State) (e : Event) → Sound M σ → TrueFigures M σ → InOrder M (length σ.table) σ.given → Due M σ e
+      → InOrder M (length (after σ e).table) (after σ e).given
+  order_one σ e sound told order (refuses c r x) = order
+  order_one σ e sound told order (grants ws g) = order
+  order_one σ e sound told order (figures k o is) =
+      let n = length σ.table in
+      let t = value_at σ.table in
+      let v = sum M n o.row t in
+      let facts = sound.open_facts o is.open_is in
+      subst (λ (x : Option OpenRow). InOrder M n (with_figure x v σ.given)) (sym is.open_is) (
+        record { row = facts.row; figure = sum_below M L n o.row t facts.row.weights sound.table.elements },
+        facts.pins_nobody,
+        λ (fixes, never). never t sound.table.elements told refl,
+        order,
+      )
+  order_one σ e sound told order (takes_back k o is) = order
+  order_one σ e sound told order (fills i a l w f) = order
 
-  in_order : (h : List Event) → Lawful M n t new_session h → InOrder M n (answered h)
-  in_order [] lawful = tt
-  in_order (e ∷ h) lawful =
-      let earlier = before M n t new_session e h lawful in
-      let fits : Fits M n (answered h) t =
-      subst (λ (all : List Figured). Fits M n all t) (append-nil (answered h)) (table_fits M n t new_session tt h earlier) in
-      order_one h e.call e.reply (after M L n t ct new_session (new_sane M L n) h earlier) fits (in_order h earlier)
-      (last_due M n t new_session e h lawful)
+  in_order :
+      {σ τ : State} {es : List Event} → Sound M σ → TrueFigures M σ → InOrder M (length σ.table) σ.given → Lawful M σ es τ
+      → InOrder M (length τ.table) τ.given
+  in_order sound told order ends = order
+  in_order sound told order (goes_on due more) =
+      in_order (stays_sound_lem M L _ _ sound due) (true_after due told) (order_one _ _ sound told order due) more
 
 pub answered_is_accepted_lem : AnsweredIsAccepted
-answered_is_accepted_lem M L n count t ct h lawful = written_is_accepted_lem M n count (answered h) (in_order M L n t ct h lawful)
+answered_is_accepted_lem M L T table τ es run =
+    let order : InOrder M (length T) τ.given =
+    subst (λ (U : List ℕ). InOrder M (length U) τ.given) (last_table run) (in_order M L (new_is_sound_lem M L T table) tt tt run)
+    in
+    written_is_accepted_lem M (length T) (table.some, table.few) τ.given order

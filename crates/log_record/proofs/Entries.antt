@@ -9,7 +9,7 @@ use Rattle.field.specs.Model.{FieldModel, FieldLaws}
 use Rattle.field.proofs.Zero.{zero-code}
 use Rattle.server.specs.Checks.{Lowest, Count}
 use Rattle.member_map.specs.Maps.{map_length_lem, named_below, Stray}
-use Rattle.history.proofs.Searching.{lowest-one}
+use Rattle.checks.proofs.Searching.{lowest-one}
 use Rattle.answer_log.specs.Rows.{plain}
 use Rattle.answer_log.specs.Entries as entries
 use Rattle.answer_log.specs.Entries.{mark_of, map_of, weighted, row_length_lem, row_weight, row_figure, Mapped, Named, Framed, Faulty, Weighed, EntryCheck, HeaderCheck}

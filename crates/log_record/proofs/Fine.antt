@@ -8,11 +8,12 @@ use Rattle.field.specs.Sums.{Vector, weights_of}
 use Rattle.field.specs.declared.Element.{Element}
 use Rattle.member_map.specs.Maps.{named, named_below}
 use Rattle.member_map.proofs.Counts.{none_below, below_unnamed}
-use Rattle.answer_log.specs.Entries.{map_of, EntryCheck, accepted, Reads, RowAt}
+use Rattle.answer_log.specs.Entries.{map_of, Weighed, EntryCheck, accepted, Reads, RowAt}
 use Rattle.answer_log.proofs.Logs.{weight-below, cut_reads}
 use Rattle.checks.specs.Checks.{RowCheck, accepted as passes}
+use Rattle.checks.specs.Rows.{IsRow}
 use Rattle.log_record.specs.Joins.{row_with}
-use Rattle.log_record.specs.Theorems.{RowFine}
+use Rattle.law.specs.Sound.{RowFine}
 
 -- where no member is named, none is counted
 none_counted : (map : List ℕ) (n : ℕ) → ((m : ℕ) → m < n → named map m ≡ false) → named_below map n ≡ 0
@@ -25,15 +26,16 @@ pub reads_fine :
     → RowFine M n (row_with w f)
 reads_fine M L n k bs w f size r = go r.check
   where
+    some : Weighed M n bs → ((m : ℕ) → m < n → w m ≡ 0) → ⊥
+    some fine none =
+        fine.framed.named.some_named
+        (none_counted (map_of bs) n
+        (λ m h.
+        ⊎_elim (λ e. absurd (fine.no_fault m (h, e, inr (sym (r.weights m h) ∙ none m h)))) (λ e. e) (cases_Bool (named (map_of bs) m))))
+
     go : EntryCheck M n k bs None → RowFine M n (row_with w f)
     go (accepted fine below) = record {
-      weights = λ m h. rw (r.weights m h) (weight-below M n bs L fine.no_fault m h);
-      none_past = r.none_past;
-      some_named = λ none.
-          fine.framed.named.some_named
-          (none_counted (map_of bs) n
-          (λ m h.
-          ⊎_elim (λ e. absurd (fine.no_fault m (h, e, inr (sym (r.weights m h) ∙ none m h)))) (λ e. e) (cases_Bool (named (map_of bs) m))));
+      row = record { weights = λ m h. rw (r.weights m h) (weight-below M n bs L fine.no_fault m h); none_past = r.none_past; some_named = some fine };
       figure = rw r.figure below;
     }
 
@@ -45,4 +47,4 @@ pub cut_checked :
 cut_checked M L n k bytes fit at ws f next row long =
     let size = length-take-le n ws long in
     let fine = reads_fine M L n k (drop at bytes) (weights_of (take n ws)) f (next - at) (cut_reads M L n k bytes fit at ws f next row long) in
-    (passes size fine.weights (λ none. fine.some_named (λ m h. none m (omega arith))), fine.figure)
+    (passes size fine.row.weights (λ none. fine.row.some_named (λ m h. none m (omega arith))), fine.figure)

@@ -6,7 +6,7 @@ pub mod Answered
 pub mod Levels
 pub mod Entries
 pub mod Once
-pub mod Sane
+pub mod Sound
 pub mod Possible
 pub mod Formed
 pub mod Order

@@ -16,7 +16,8 @@ use Rattle.answer_log.proofs.Again.{again}
 use Rattle.answer_log.proofs.Back.{reads_back}
 use Rattle.answer_log.proofs.Readers.{row_within}
 use Rattle.log_record.specs.Joins.{rows_bytes, log_bytes, row_with, joins, RowsJoin, no_more as no_rows, next_row as next_joins, rows as all_rows}
-use Rattle.log_record.specs.Theorems.{Bytes, InOrder, AllFine, AcceptedIsInOrder, ReadIsWritten}
+use Rattle.law.specs.Sound.{AllFine}
+use Rattle.log_record.specs.Theorems.{Bytes, InOrder, AcceptedIsInOrder, ReadIsWritten}
 use Rattle.log_record.proofs.Fine.{reads_fine}
 use Rattle.log_record.proofs.Written.{no_bytes}
 
@@ -72,7 +73,7 @@ module _ (M : FieldModel) (n : ℕ) where
   rows_checked count [] fine rest r check = check
   rows_checked count (g ∷ before) (row, fine) rest r check =
       let bytes = row_bytes M n g.row g.figure in
-      let reads = reads_back M n g.row g.figure rest count row.weights row.none_past row.some_named row.figure (record { 0 = length before }) in
+      let reads = reads_back M n g.row g.figure rest count row.row.weights row.row.none_past row.row.some_named row.figure (record { 0 = length before }) in
       let within = row_within M n (record { 0 = length before }) (bytes ++ rest) 0 g.row g.figure (length bytes) reads in
       let behind : drop (row_length_lem M n (bytes ++ rest)) (bytes ++ rest) ≡ rest =
       ap (λ i. drop i (bytes ++ rest)) (sym reads.whole)

@@ -1,5 +1,5 @@
 -- Every value stays possible after a log. Assumes nothing.
-use Rattle.std.proofs.Common.{◌≡◌, ℕ, ◌+◌, ◌<◌, List, [], ◌∷◌, ◌++◌, drop, None, refl, ◌∙◌}
+use Rattle.std.proofs.Common.{◌≡◌, ℕ, ◌+◌, List, [], ◌∷◌, ◌++◌, length, drop, None, sym, ap, ◌∙◌, subst}
 use native.Mathlib.Decide.{ℕ_discrete}
 use Rattle.refusal.specs.declared.LogRow.{LogRow}
 use Rattle.field.specs.Model.{FieldModel, FieldLaws}
@@ -7,13 +7,11 @@ use Rattle.field.specs.Sums.{Vector, Codes, sum}
 use Rattle.server.specs.Tables.{value_at}
 use Rattle.echelon.specs.Rows.{Figured, rows_of, Fits, Fixes}
 use Rattle.echelon.specs.Reduced.{FitsGiven}
-use Rattle.echelon.proofs.Tables.{witness-fits}
 use Rattle.echelon.proofs.Forms.{given-agree}
-use Rattle.checks.specs.Checks as checks
-use Rattle.history.specs.Events.{Reply, Event, Start, witnesses, fills, answered, given}
-use Rattle.history.specs.Law.{Due, witness_refused, witness_filled}
-use Rattle.history.proofs.Checked.{witness-check-apart}
-use Rattle.history.proofs.Possible.{fits-given}
+use Rattle.echelon.proofs.Given.{fits-given}
+use Rattle.law.specs.States.{answered_by}
+use Rattle.law.proofs.Facts.{sound_after, last_table, all_given}
+use Rattle.law.proofs.Possible.{every_value_stays_possible_lem}
 use Rattle.log_record.specs.Joins.{Contradicts, JoinCheck, joins, row_with, RowsJoin, no_more, next_row, LogRecord, rows}
 use Rattle.log_record.specs.Theorems.{PossibleAfterALog}
 
@@ -48,17 +46,13 @@ module _ (M : FieldModel) (n : ℕ) where
   older_fit [] older t fits = fits
   older_fit (g ∷ newer) older t fits = older_fit newer older t fits.1
 
-module _ (M : FieldModel) (L : FieldLaws M) (n : ℕ) (t : Vector) (s : Start) (full : Full M n s.rows) (h : List Event) where
-  filled :
-      (i a : ℕ) → i < n → a < M.size → (r : Reply) → Due M n t s h (witnesses i a n) r
-      → (w : List ℕ) × (r ≡ fills w) × (value_at w i ≡ a) × Codes M n (value_at w) × Fits M n s.rows (value_at w)
-      × FitsGiven M n (given s h) (value_at w)
-  filled i a b c r (witness_refused _ _ _ e check) = absurd (witness-check-apart M n i a n e (checks.accepted b c refl) check)
-  filled i a b c r (witness_filled _ _ _ rec w check form len wit) =
-      let (codes, is, fw) = witness-fits M L n rec form.reduced i a b c (value_at w) wit in
-      let all = form.given_fits (value_at w) codes fw in
-      (w, refl, is, codes, full (value_at w) codes (older_fit M n (answered h) s.rows (value_at w) all), all)
-
 pub possible_after_a_log_lem : PossibleAfterALog
-possible_after_a_log_lem M L n bs log accepted t p h lawful i a b c r due =
-    filled M L n t (record { rows = log; permits_before = p }) (log_full M n bs log accepted) h i a b c r due
+possible_after_a_log_lem M L bs log σ τ es sound accepted is run i a below code =
+    let (w, known) = (every_value_stays_possible_lem M L τ (sound_after M L run sound)).0 i a below code in
+    let all : FitsGiven M (length τ.table) (answered_by σ es ++ log) (value_at w) =
+    subst (λ (rows : List Figured). FitsGiven M (length τ.table) rows (value_at w)) (all_given run ∙ ap (λ l. answered_by σ es ++ l) is) known.figures
+    in
+    let read : LogRecord M (length τ.table) bs None log =
+    subst (λ (T : List ℕ). LogRecord M (length T) bs None log) (sym (last_table run)) accepted
+    in
+    (w, known, log_full M (length τ.table) bs log read (value_at w) known.codes (older_fit M (length τ.table) (answered_by σ es) log (value_at w) all))

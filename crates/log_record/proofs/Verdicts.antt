@@ -19,9 +19,8 @@ use Rattle.record.specs.Judged.{Judged, Adds, FitsBoth, Admitted}
 use Rattle.record.specs.declared.judge.Judgement.TheVariants.{Fixed, Pinning, Free}
 use Rattle.record.specs.declared.judge.Admission.{Admission}
 use Rattle.checks.proofs.Passed.{row-codes}
-use Rattle.history.proofs.Checked.{row-check-apart}
-use Rattle.history.proofs.Facts.{new_sane}
-use Rattle.history.proofs.ByRecord.{pinned_by, pinned_with, fixed-pins_none, record_fits}
+use Rattle.checks.proofs.Checked.{row-check-apart}
+use Rattle.echelon.proofs.ByForm.{nothing_pins, pinned_by, pinned_with, fixed-pins_none, record_fits}
 use Rattle.log_record.specs.Joins.{PinsWith, Contradicts, JoinCheck, discloses, other_figure, joins, Recorded}
 
 module _
@@ -29,11 +28,11 @@ module _
     (ws : List Element) (passed : RowCheck M n ws None) (f : ℕ) where
   -- the row pins a member
   pub pinning : (i : Member) → Judged M n rec (weights_of ws) (Pinning i) → JoinCheck M n k before (given_row ws f) (Some (Discloses (OfRow k)))
-  pinning i (judged.pins not j low) = discloses j (pinned_by M L n before B.codes rec B.form ws j low.holds)
+  pinning i (judged.pins not j low) = discloses j (pinned_by M L n before B.codes rec B.form (weights_of ws) j low.holds)
 
   module _ (fixes : Fixes M n (record_rows rec) (weights_of ws)) (v : ℕ) (figure : FixedFigure M n rec (weights_of ws) v) where
     none_pinned : (i : ℕ) → PinsWith M n before (given_row ws f) i → ⊥
-    none_pinned = fixed-pins_none M L n before B.codes rec B.form B.pins_nobody ws fixes
+    none_pinned = fixed-pins_none M L n before B.codes rec B.form B.pins_nobody (weights_of ws) fixes
 
     contradicts : v ≢ f → Contradicts M n before (given_row ws f)
     contradicts ne = (
@@ -70,7 +69,7 @@ module _
       → JoinCheck M n k before (given_row ws f) None × Recorded M n (given_row ws f ∷ before) rec'
   free-joins rec' (judged.free loose free) fits adds =
       let none : (i : ℕ) → PinsWith M n before (given_row ws f) i → ⊥ =
-      λ i pinned. free i (pinned_with M L n before B.codes rec B.form ws i pinned)
+      λ i pinned. free i (pinned_with M L n before B.codes rec B.form (weights_of ws) i pinned)
       in (
         joins none
             (λ (fixes, _). loose (λ t u ct cu agree. fixes t u ct cu ((form_agrees_lem M L n before rec B.form B.codes t u ct cu).1 agree))),
@@ -113,7 +112,7 @@ empty_form M n = record {
 pub nothing_yet : (M : FieldModel) → FieldLaws M → (n : ℕ) → Recorded M n [] []
 nothing_yet M L n = record {
   codes = tt;
-  pins_nobody = (new_sane M L n).pins_nobody;
+  pins_nobody = nothing_pins M L n;
   form = empty_form M n;
   figures = λ t ct fits. tt;
 }

@@ -37,7 +37,7 @@ module _ (M : FieldModel) (n : ℕ) where
   rows_read count [] order rest r all join = join
   rows_read count (g ∷ before) (row, none, agrees, order) rest r all join =
       let bytes = row_bytes M n g.row g.figure in
-      let reads = reads_back M n g.row g.figure rest count row.weights row.none_past row.some_named row.figure (record { 0 = length before }) in
+      let reads = reads_back M n g.row g.figure rest count row.row.weights row.row.none_past row.row.some_named row.figure (record { 0 = length before }) in
       let within = row_within M n (record { 0 = length before }) (bytes ++ rest) 0 g.row g.figure (length bytes) reads in
       let behind : drop (length bytes) (bytes ++ rest) ≡ rest =
       drop-append-le (length bytes) bytes rest (omega arith) ∙ ap (λ us. us ++ rest) (drop_all (length bytes) bytes (omega arith)) in

@@ -9,6 +9,6 @@ mod theorems;
 pub use reading::{ReadLog, read_record};
 pub use rewriting::rewrite_accepted;
 pub use theorems::{
-    accepted_is_in_order, accepted_is_written, answered_is_accepted, one_answer,
+    accepted_is_in_order, accepted_is_written, answered_is_accepted, log_is_sound, one_answer,
     possible_after_a_log, read_is_written, written_is_accepted,
 };

@@ -1,5 +1,5 @@
 // What holds of every log. Each function stands for the theorem in its contract.
-ghost use Rattle.log_record.specs.Theorems.{AcceptedIsWritten, WrittenIsAccepted, AcceptedIsInOrder, ReadIsWritten, AnsweredIsAccepted, OneAnswer, PossibleAfterALog};
+ghost use Rattle.log_record.specs.Theorems.{AcceptedIsWritten, WrittenIsAccepted, AcceptedIsInOrder, ReadIsWritten, AnsweredIsAccepted, OneAnswer, LogIsSound, PossibleAfterALog};
 
 pub fn accepted_is_written()
     ensures { AcceptedIsWritten }
@@ -23,6 +23,10 @@ pub fn answered_is_accepted()
 
 pub fn one_answer()
     ensures { OneAnswer }
+{}
+
+pub fn log_is_sound()
+    ensures { LogIsSound }
 {}
 
 pub fn possible_after_a_log()
