@@ -5,9 +5,9 @@ use Rattle.std.proofs.lemmas.Grind.{flat_map-append}
 use Rattle.field.specs.Sums.{weights_of}
 use Rattle.field.specs.declared.Element.{Element}
 use Rattle.server.specs.Tables.{codes}
-use Rattle.history.specs.Events.{Reply, permits, gives, takes_back, fills, refuses}
+use Rattle.refusal.specs.Numbered.{number, detail}
 use Rattle.buffer.proofs.Digits.{five_digits}
-use Rattle.answer_text.specs.AnswerLines.{after_space, spaced, reply_text, newline, answer_line, Short, LinesFit}
+use Rattle.answer_text.specs.AnswerLines.{after_space, spaced, newline, Told, figure, granted, table, refused, told_text, answer_line, Short, LinesFit}
 
 -- one element more
 pub element_more :
@@ -29,10 +29,10 @@ elements-below es i =
     let parts = length-append (spaced (codes (take i es))) (spaced (codes (drop i es))) in
     omega arith
 
-pub line-length : (k : ℕ) (r : Reply) → length (answer_line k r) ≡ length (decimal k) + 2 + length (reply_text r)
-line-length k r =
-    let all = length-append (decimal k) (32 ∷ (reply_text r ++ newline)) in
-    let rest = length-append (reply_text r) newline in
+pub line-length : (k : ℕ) (t : Told) → length (answer_line k t) ≡ length (decimal k) + 2 + length (told_text t)
+line-length k t =
+    let all = length-append (decimal k) (32 ∷ (told_text t ++ newline)) in
+    let rest = length-append (told_text t) newline in
     omega arith
 
 spaced-short : (w : List ℕ) → ((m : ℕ) → m < length w → get_or w m 0 < 100000) → length (spaced w) ≤ 6 * length w
@@ -43,24 +43,23 @@ spaced-short (v ∷ w) h =
     let all = length-append (decimal v) (spaced w) in
     omega arith
 
-text-fits : (r : Reply) → Short r → length (reply_text r) ≤ 385
-text-fits (permits k) h = omega arith
-text-fits (gives v) h =
+text-fits : (t : Told) → Short t → length (told_text t) ≤ 385
+text-fits (figure v) h =
     let digits = five_digits v h in let all = length-append (decimal v) [] in omega arith
-text-fits takes_back h = omega arith
-text-fits (fills w) h = let long = spaced-short w h.1 in omega (arith, h.0)
-text-fits (refuses n d) h =
-    let first = five_digits n h.0 in
-    let second = five_digits d h.1 in
-    let all = length-append (decimal n) (spaced (d ∷ [])) in
-    let rest = length-append (decimal d) [] in
+text-fits granted h = omega arith
+text-fits (table w) h = let long = spaced-short w h.1 in omega (arith, h.0)
+text-fits (refused e) h =
+    let first = five_digits (number e) h.0 in
+    let second = five_digits (detail e) h.1 in
+    let all = length-append (decimal (number e)) (spaced (detail e ∷ [])) in
+    let rest = length-append (decimal (detail e)) [] in
     omega arith
 
 pub lines_fit : (room : ℕ) → 392 ≤ room → LinesFit room
-lines_fit room enough k r small short =
+lines_fit room enough k t small short =
     let number = five_digits k small in
-    let text = text-fits r short in
-    let all = line-length k r in
+    let text = text-fits t short in
+    let all = line-length k t in
     omega arith
 
 pub two_length : (first second : ℕ) → length (spaced (first ∷ second ∷ [])) ≡ length (after_space first) + length (after_space second)

@@ -1,7 +1,7 @@
 // The line that a line of query text prints.
 ghost use Rattle.std.specs.Prelude.{◌≡◌, ◌+◌, ◌<◌, ◌≤◌, ◌∷◌, ◌++◌, length, MatchOption};
 ghost use Rattle.buffer.specs.Buffers.{Put, Writes};
-ghost use Rattle.answer_text.specs.AnswerLines.{reply_text, newline, answer_line, reply_of_answer};
+ghost use Rattle.answer_text.specs.AnswerLines.{told_text, newline, answer_line, told_of};
 
 use crate::answers::Answer;
 use crate::numbers::{put_elements, put_number, put_spaced, room_after_elements, spaced_length};
@@ -10,7 +10,8 @@ use buffer::digit_count;
 
 // The room that is left after the text of an answer; none where it does not fit.
 fn room_after_text(answer: &Answer, room: usize) -> Option<usize>
-    ensures { MatchOption result (room < length (reply_text (reply_of_answer answer.now))) (λ left. left + length (reply_text (reply_of_answer answer.now)) ≡ room) }
+    ensures { MatchOption result (room < length (told_text (told_of answer.now)))
+        (λ left. left + length (told_text (told_of answer.now)) ≡ room) }
 {
     match answer {
         Answer::Figure(value) => room.checked_sub(1 + spaced_length(value.0 as usize)),
@@ -22,8 +23,8 @@ fn room_after_text(answer: &Answer, room: usize) -> Option<usize>
 
 // Writes the text of an answer.
 fn put_text(answer: &Answer, out: &mut [u8]) -> usize
-    requires { length (reply_text (reply_of_answer answer.now)) ≤ length out.old }
-    ensures { Put (reply_text (reply_of_answer answer.now)) out.old out.new result }
+    requires { length (told_text (told_of answer.now)) ≤ length out.old }
+    ensures { Put (told_text (told_of answer.now)) out.old out.new result }
 {
     match answer {
         Answer::Figure(value) => {
@@ -44,8 +45,8 @@ fn put_text(answer: &Answer, out: &mut [u8]) -> usize
 
 // Writes what comes after a line's number: a space, the text of the answer, a newline.
 fn put_rest(answer: &Answer, out: &mut [u8]) -> usize
-    requires { 2 + length (reply_text (reply_of_answer answer.now)) ≤ length out.old }
-    ensures { Put (32 ∷ (reply_text (reply_of_answer answer.now) ++ newline)) out.old out.new result }
+    requires { 2 + length (told_text (told_of answer.now)) ≤ length out.old }
+    ensures { Put (32 ∷ (told_text (told_of answer.now) ++ newline)) out.old out.new result }
 {
     out[0] = b' ';
     let at = 1 + put_text(answer, &mut out[1..]);
@@ -56,7 +57,7 @@ fn put_rest(answer: &Answer, out: &mut [u8]) -> usize
 // Writes the line that a line of query text prints to the front of `out`, and answers how many bytes it has. Where it
 // does not fit, the answer is none and nothing is written.
 pub fn write_answer(line: usize, answer: &Answer, out: &mut [u8]) -> Option<usize>
-    ensures { Writes (answer_line line (reply_of_answer answer.now)) out.old out.new result }
+    ensures { Writes (answer_line line (told_of answer.now)) out.old out.new result }
 {
     let rest = out.len().checked_sub(digit_count(line) + 2)?;
     room_after_text(answer, rest)?;

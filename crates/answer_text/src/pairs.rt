@@ -1,8 +1,8 @@
 // Lines of a mark and two numbers: refusals and stops.
-ghost use Rattle.std.specs.Prelude.{◌≡◌, ◌+◌, ◌≤◌, [], ◌∷◌, ◌++◌, length};
+ghost use Rattle.std.specs.Prelude.{◌≡◌, ◌≤◌, ◌++◌, length};
 ghost use Rattle.refusal.specs.Numbered.{number, detail};
 ghost use Rattle.buffer.specs.Buffers.{Put, Writes};
-ghost use Rattle.answer_text.specs.AnswerLines.{spaced, newline, refusal_line_lem, stop_line_lem};
+ghost use Rattle.answer_text.specs.AnswerLines.{pair_text, newline, refusal_line_lem, stop_line_lem};
 
 use crate::numbers::{put_spaced, spaced_length};
 use refusal::Refusal;
@@ -29,7 +29,7 @@ impl Pair {
 
     // How many bytes the mark and the numbers take.
     pub(crate) fn length(self) -> usize
-        ensures is { result ≡ 1 + length (spaced (self.first ∷ self.second ∷ [])) }
+        ensures is { result ≡ length (pair_text self.mark self.first self.second) }
         ensures few { result ≤ 43 }
     {
         1 + spaced_length(self.first) + spaced_length(self.second)
@@ -37,8 +37,8 @@ impl Pair {
 
     // Writes the mark and the numbers. Not by `put_elements`: they may be greater than the code of an element.
     pub(crate) fn put(self, out: &mut [u8]) -> usize
-        requires { 1 + length (spaced (self.first ∷ self.second ∷ [])) ≤ length out.old }
-        ensures { Put (self.mark ∷ spaced (self.first ∷ self.second ∷ [])) out.old out.new result }
+        requires { length (pair_text self.mark self.first self.second) ≤ length out.old }
+        ensures { Put (pair_text self.mark self.first self.second) out.old out.new result }
     {
         out[0] = self.mark;
         let at = 1 + put_spaced(self.first, &mut out[1..]);
@@ -47,7 +47,7 @@ impl Pair {
 
     // Writes them as a line.
     fn write(self, out: &mut [u8]) -> Option<usize>
-        ensures { Writes (self.mark ∷ (spaced (self.first ∷ self.second ∷ []) ++ newline)) out.old out.new result }
+        ensures { Writes (pair_text self.mark self.first self.second ++ newline) out.old out.new result }
     {
         if out.len() < self.length() + 1 {
             return None;
