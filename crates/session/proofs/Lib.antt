@@ -1,6 +1,7 @@
 pub mod Steps
+pub mod Own
+pub mod Followed
 pub mod Admitted
-pub mod Resuming
-pub mod Witnessed
-pub mod Running
 pub mod Padded
+pub mod Witnessed
+pub mod Resuming

@@ -1,4 +1,4 @@
-pub mod Views
-pub mod Runs
+pub mod Permits
+pub mod States
 pub mod Resumes
 pub mod Granted

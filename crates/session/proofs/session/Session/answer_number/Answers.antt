@@ -1,15 +1,19 @@
-use Rattle.std.proofs.Common.{◌≡◌, ℕ, true, List, length, take, is_ok, Some, Option, refl, ap, ◌∙◌, subst, arith}
+use Rattle.std.proofs.Common.{rules, ◌≡◌, ℕ, true, List, length, take, is_ok, Some, Option, None, sym, refl, ap, ◌∙◌, subst, arith}
 use Rattle.std.proofs.lemmas.Result.{err_from_is_err_and}
-use Rattle.field.specs.Sums.{sum, weights_of}
+use Rattle.field.specs.Sums.{Vector, Codes, sum, weights_of}
+use Rattle.echelon.specs.Reduced.{PinnedWith}
+use Rattle.std.proofs.lemmas.List.{length-take-le}
 use Rattle.field.specs.declared.Element.{Element}
 use Rattle.server.specs.Tables.{value_at}
+use Rattle.echelon.specs.Rows.{Figured}
+use Rattle.checks.specs.Checks.{RowCheck, accepted}
 use Rattle.record.specs.Judged.{Admitted, Adds}
-use Rattle.echelon.specs.Rows.{given_row}
 use Rattle.record.specs.Records.{rec_of}
 use Rattle.session.specs.Granted.{Granted}
 use Rattle.session.specs.declared.session.OpenRow.{OpenRow}
 use Rattle.session.proofs.Admitted.{admit_succeeds}
-use Rattle.session.proofs.Steps.{answer_refused-steps, answered-steps}
+use Rattle.session.proofs.Padded.{cut_is}
+use Rattle.session.proofs.Followed.{number_apart, answer_refused, answered_with}
 use Rattle.session.proofs.session.Session.answer_number.Goals as goal
 use Rattle.session.proofs.session.Session.answer_number.Goals.{After-admit}
 
@@ -21,8 +25,10 @@ returns-in_err-row g c =
     rw (p.1, p.2, refused_so.0)
     (record {
       server = refl;
-      kept = refl;
-      law = answer_refused-steps g.S.Over.Field.model g.met.S.Over.Field.laws (g.S.Server.table x.server) x c.args.number refused_so.1;
+      issued = refl;
+      refused = refl;
+      not_open = number_apart x.pending c.args.number refused_so.1;
+      law = answer_refused g.met.S.Over.Field.laws x c.args.number refused_so.1;
     })
 
 -- the open row was granted, over as many members as the table has
@@ -40,35 +46,40 @@ went_in :
     (g : _) (c : After-admit g)
     → (is_ok c.admit.result ≡ true)
     × Adds g.S.Over.Field.model (length (g.S.Server.table c.args.self.now.server)) (rec_of c.args.self.now.record)
-    (given_row (take (length (g.S.Server.table c.args.self.now.server)) c.in_ok-row.row.weights) c.row_sum-figure.result.0) (rec_of c.admit.new.self)
+    (record { row = weights_of c.in_ok-row.row.weights; figure = c.row_sum-figure.result.0 }) (rec_of c.admit.new.self)
 went_in g c =
     let M = g.S.Over.Field.model in
     let x = c.args.self.now in
-    let T = g.S.Server.table x.server in
-    let row = granted g c in
+    let n = length (g.S.Server.table x.server) in
+    let ws = c.in_ok-row.row.weights in
+    let facts = granted g c in
     let figure = c.row_sum-figure.result.0 in
+    let whole : weights_of (take n ws) ≡ weights_of ws = cut_is ws n facts.0.none_past in
     -- the whole open row joins, with its figure
-    let joins : Admitted M x.record.count (rec_of x.record) (take c.count.result c.in_ok-row.row.weights) figure (rec_of c.admit.new.self) c.admit.result =
+    let joins : Admitted M x.record.count (rec_of x.record) (take c.count.result ws) figure (rec_of c.admit.new.self) c.admit.result =
     search (c.admit.ensures.admitted) in
     let admitted =
-    subst (λ (n : ℕ). Admitted M n (rec_of x.record) (take (length T) c.in_ok-row.row.weights) figure (rec_of c.admit.new.self) c.admit.result) x.counted
-    (subst (λ (ws : List Element). Admitted M x.record.count (rec_of x.record) ws figure (rec_of c.admit.new.self) c.admit.result) (cut g c) joins) in
-    admit_succeeds M (length T) (rec_of x.record) (take (length T) c.in_ok-row.row.weights) figure (rec_of c.admit.new.self) c.admit.result
-    admitted row.0 c.row_sum-figure.ensures.within row.1
+    subst (λ (k : ℕ). Admitted M k (rec_of x.record) (take n ws) figure (rec_of c.admit.new.self) c.admit.result) x.counted
+    (subst (λ (us : List Element). Admitted M x.record.count (rec_of x.record) us figure (rec_of c.admit.new.self) c.admit.result) (cut g c) joins) in
+    let back = sym whole in
+    let long : length (take n ws) ≡ n = length-take-le n ws (let sized : length ws ≡ 64 = search rules in omega (arith, sized, x.counted, x.record.members.1)) in
+    let passed : RowCheck M n (take n ws) None =
+    accepted long (subst (λ (w : Vector). Codes M n w) back facts.0.weights)
+    (λ none. facts.0.some_named (λ m h. ap (λ (w : Vector). w m) back ∙ none m (omega (arith, long)))) in
+    let (fine, adds) =
+    admit_succeeds M n (rec_of x.record) (take n ws) figure (rec_of c.admit.new.self) c.admit.result
+    admitted passed c.row_sum-figure.ensures.within (subst (λ (w : Vector). (i : ℕ) → PinnedWith M n (rec_of x.record) w i → ⊥) back facts.1) in
+    (fine, subst (λ (w : Vector). Adds M n (rec_of x.record) (record { row = w; figure = figure }) (rec_of c.admit.new.self)) whole adds)
 
 pub unwrap-requires : goal.unwrap-requires
 unwrap-requires g c = (went_in g (goal.at.unwrap-requires g c).After-admit).0
 
 pub returns-clause-law : goal.returns-clause-law
 returns-clause-law g c =
-    let M = g.S.Over.Field.model in
     let x = c.args.self.now in
-    let T = g.S.Server.table x.server in
     let row = c.in_ok-row.row in
     let here = (goal.at.returns-clause-law g c).After-admit in
-    let of_the_row : c.row_sum-figure.result.0 ≡ sum M (length T) (weights_of (take c.count.result row.weights)) (value_at T) =
+    let figure : c.row_sum-figure.result.0 ≡ sum g.S.Over.Field.model (length (g.S.Server.table x.server)) (weights_of row.weights) (value_at (g.S.Server.table x.server)) =
     search (c.row_sum-figure.ensures.is) in
-    let figure : c.row_sum-figure.result.0 ≡ sum M (length T) (weights_of (take (length T) row.weights)) (value_at T) =
-    of_the_row ∙ ap (λ l. sum M (length T) (weights_of l) (value_at T)) (cut g here) in
-    answered-steps M g.met.S.Over.Field.laws T x _ row c.args.number _ c.row_sum-figure.result.0
-    c.in_ok-row.ensures.1 c.in_ok-row.ensures.0 (granted g here).0 figure (went_in g here).1 refl refl (omega arith)
+    answered_with g.met.S.Over.Field.laws x c.args.number c.row_sum-figure.result.0 row _
+    c.in_ok-row.ensures.0 c.in_ok-row.ensures.1 figure (went_in g here).1 (λ given. refl)

@@ -1,9 +1,8 @@
 use Rattle.std.proofs.Common.{◌≡◌, [], length, sym, refl, subst, arith}
 use Rattle.echelon.specs.Reduced.{ReducedForm}
 use Rattle.record.specs.Records.{rec_of}
-use Rattle.history.specs.Law.{begins}
-use Rattle.history.proofs.Facts.{new_sane}
 use Rattle.log_record.proofs.Verdicts.{empty_form}
+use Rattle.law.proofs.Facts.{new_is_sound_lem}
 use Rattle.session.proofs.session.Session.new.Goals as goal
 
 pub invariant_of-result-clause-counted : goal.invariant_of-result-clause-counted
@@ -18,11 +17,8 @@ returns g c =
     record {
       server = refl;
       holds = record {
-        sane = new_sane M L (length T);
-        lawful = begins;
-        codes = tt;
+        is = refl;
+        sound = new_is_sound_lem M L T c.count-count.ensures.lawful;
         form = subst (ReducedForm M (length T) []) (sym none) (empty_form M (length T));
-        issued_is = search;
-        open_is = tt;
       };
     }

@@ -1,4 +1,4 @@
--- Answers for `resume`: the session stands for the log's rows, and for no call yet.
+-- Answers for `resume`: the session stands for the state after the log.
 use Rattle.std.proofs.Common.{ℕ, List, length, refl, subst}
 use Rattle.echelon.specs.Rows.{Figured}
 use Rattle.echelon.specs.Reduced.{ReducedForm}
@@ -6,27 +6,46 @@ use Rattle.record.specs.Records.{rec_of}
 use Rattle.log_record.specs.Joins.{LogRecord}
 use Rattle.log_record.proofs.Possible.{possible_after_a_log_lem}
 use Rattle.log_record.proofs.Written.{accepted_is_written_lem}
-use Rattle.session.proofs.Resuming.{holds_after, own_log}
+use Rattle.session.proofs.Resuming.{resumed_state, own_log}
 use Rattle.session.proofs.session.Session.resume.Goals as goal
+use Rattle.session.proofs.session.Session.resume.Goals.{After-issued_after}
 
-pub returns : goal.returns
-returns g c =
+-- the log's answer, its rows, and the record as their reduced form
+read_so :
+    (g : _) (c : After-issued_after g)
+    → (given : List Figured) × LogRecord g.S.Over.Field.model (length (g.S.Server.table c.args.server)) c.args.log.now c.read_record-record.result.refusal given
+    × ReducedForm g.S.Over.Field.model (length (g.S.Server.table c.args.server)) given (rec_of c.read_record-record.result.record)
+read_so g c =
     let M = g.S.Over.Field.model in
-    let L = g.met.S.Over.Field.laws in
-    let T = g.S.Server.table c.args.server in
-    let table = c.count-count.ensures.lawful in
-    let size = c.count-count.ensures.is in
     let read = c.read_record-record.result in
-    let told = c.read_record-record.ensures in
-    let bytes = c.args.log.now in
-    let (given, log, form) =
-    subst (λ (n : ℕ). (given : List Figured) × LogRecord M n bytes read.refusal given × ReducedForm M n given (rec_of read.record)) size told.log in
-    record {
-      server = refl;
-      resumes = (given, log, holds_after M L T _ refl bytes read.refusal given log form told.empty c.issued_after.ensures);
-      empty = told.empty;
-      written = λ given log. accepted_is_written_lem M (length T) bytes (λ i. (c.type_inv.log i).fits) given log;
-      own = own_log M L T _ refl (table.some, table.few) bytes read.refusal
-          (given, log, holds_after M L T _ refl bytes read.refusal given log form told.empty c.issued_after.ensures);
-      possible = possible_after_a_log_lem;
-    }
+    subst (λ (n : ℕ). (given : List Figured) × LogRecord M n c.args.log.now read.refusal given × ReducedForm M n given (rec_of read.record))
+    c.count-count.ensures.is c.read_record-record.ensures.log
+
+pub returns-clause-resumes : goal.returns-clause-resumes
+returns-clause-resumes g c =
+    let (given, log, form) = read_so g (goal.at.returns-clause-resumes g c).After-issued_after in (
+      given,
+      log,
+      resumed_state g.met.S.Over.Field.laws _ refl c.count-count.ensures.lawful c.args.log.now c.read_record-record.result.refusal given log form
+          c.read_record-record.ensures.empty c.issued_after.ensures,
+    )
+
+pub returns-clause-empty : goal.returns-clause-empty
+returns-clause-empty g c = c.read_record-record.ensures.empty
+
+pub returns-clause-written : goal.returns-clause-written
+returns-clause-written g c given log =
+    accepted_is_written_lem g.S.Over.Field.model (length (g.S.Server.table c.args.server)) c.args.log.now (λ i. (c.type_inv.log i).fits) given log
+
+pub returns-clause-own : goal.returns-clause-own
+returns-clause-own g c =
+    let (given, log, form) = read_so g (goal.at.returns-clause-own g c).After-issued_after in
+    own_log g.met.S.Over.Field.laws _ refl c.count-count.ensures.lawful c.args.log.now c.read_record-record.result.refusal (
+      given,
+      log,
+      resumed_state g.met.S.Over.Field.laws _ refl c.count-count.ensures.lawful c.args.log.now c.read_record-record.result.refusal given log form
+          c.read_record-record.ensures.empty c.issued_after.ensures,
+    )
+
+pub returns-clause-possible : goal.returns-clause-possible
+returns-clause-possible g c = possible_after_a_log_lem

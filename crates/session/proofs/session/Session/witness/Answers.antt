@@ -10,6 +10,6 @@ returns g c =
     let a = c.args.element.0 in
     let filled : FilledFor M x.record.count (rec_of x.record) i a c.args.out.now c.witness.new.out c.witness.result = search (c.witness.ensures) in
     let done =
-    witnessed M g.met.S.Over.Field.laws (g.S.Server.table x.server) x x.record.count i a c.args.out.now c.witness.new.out c.witness.result
+    witnessed g.met.S.Over.Field.laws x x.record.count i a c.args.out.now c.witness.new.out c.witness.result
     x.counted c.witness.auto.out filled in
-    record { kept = done.0; law = done.1 }
+    record { length = done.0; refused = done.1; law = done.2 }
