@@ -1,2 +1,3 @@
-pub mod Spent
+pub mod Fronts
+pub mod Made
 pub mod Lines

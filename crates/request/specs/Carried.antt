@@ -1,12 +1,15 @@
 -- A line carried out on a session in memory.
---   table_reply n r          the reply to a witness call, of the first n places
---   outcome_reply n r        what a line is answered: the last reply to its calls, or the refusal of its text; none to a remark
+--   asked_told, tried_told r  what a line is told that asks for a row, and that tries one
+--   asked_rows ws r          the row that was answered, with its figure
+--   AsksRow, TriesRow x ws r x'   the row ws is asked for, or tried, in any state that x stands for, by the law; r is what comes of it
+--   MakesWitness x i a r     a witness call with a buffer of the table's length has the answer r, by the law
+--   outcome_told n r         what a line is told: the last answer to its calls, or the refusal of its text; nothing by a remark
 --   outcome_rows n r         the row that was answered, with its figure
---   Leads M T x x' P         for every history that x stands for, x' stands for a later one, and P says how it came
---   CarriedOut M T x line r x'   r is what comes of the line, by the law, and x' is the session with the line's calls made
---   ReadAs M n line r        what the text of the line was read as
+--   CarriedOut x bytes r x'  the line's calls, made in any state that x stands for, are lawful and end in a state that x' stands
+--                            for; the line is told what r says
+--   ReadAs M n bytes r       what the text of the line was read as
 -- Assumes nothing.
-use Rattle.std.specs.Prelude.{◌≡◌, ℕ, ◌≤◌, List, [], length, take, Some, None, Ok, Err, Option, Result}
+use Rattle.std.specs.Prelude.{◌≡◌, ℕ, ◌≤◌, List, [], ◌∷◌, length, take, Some, None, Ok, Err, Option, Result}
 use Rattle.refusal.specs.declared.Member.{Member}
 use Rattle.refusal.specs.declared.Refusal.{Refusal}
 use Rattle.field.specs.declared.Field as field
@@ -14,53 +17,72 @@ use Rattle.server.specs.declared.Server as server
 use Rattle.field.specs.Model.{FieldModel}
 use Rattle.field.specs.Sums.{weights_of}
 use Rattle.field.specs.declared.Element.{Element}
-use Rattle.server.specs.Tables.{value_at, codes}
+use Rattle.server.specs.Tables.{codes}
 use Rattle.echelon.specs.Rows.{Figured}
-use Rattle.history.specs.Events.{Start, Event, Reply, gives, takes_back, fills, refused}
-use Rattle.session.specs.Views.{Holds}
+use Rattle.law.specs.States as law
+use Rattle.law.specs.States.{Event, witnesses, witnessed, answered_by}
+use Rattle.session.specs.States.{members_of, Follows, Leads}
 use Rattle.session.specs.declared.session.Session.{Session}
 use Rattle.query.specs.declared.items.Weights.{Weights}
 use Rattle.query.specs.declared.lines.Request.{Request}
 use Rattle.query.specs.declared.lines.Request.TheVariants.{Ask, Try, Witness, Remark}
 use Rattle.query.specs.Lines.{limits, reading}
+use Rattle.answer_text.specs.AnswerLines.{Told, figure, granted, table, refused}
 use Rattle.request.specs.declared.faults.RequestFault.{RequestFault}
 use Rattle.request.specs.declared.faults.RequestFault.TheVariants.{Line, Call}
 use Rattle.request.specs.declared.outcome.Outcome.{Outcome}
 use Rattle.request.specs.declared.outcome.Outcome.TheVariants.{Skipped, Answered, Granted, Filled}
-use Rattle.request.specs.Requests.{fault_refusal, figured_with, Handled}
+use Rattle.request.specs.Requests.{fault_refusal, figured_with, Asked, Tried, Handled}
 
-abbrev pub table_reply : ℕ → Result (List Element) Refusal → Reply
-table_reply n (Ok t) = fills (codes (take n t))
-table_reply n (Err e) = refused e
+abbrev pub asked_told : Result Element Refusal → Told
+asked_told (Ok v) = figure v.0
+asked_told (Err e) = refused e
 
-abbrev pub outcome_reply : ℕ → Result Outcome RequestFault → Option Reply
-outcome_reply n (Ok Skipped) = None
-outcome_reply n (Ok (Answered w v)) = Some (gives v.0)
-outcome_reply n (Ok Granted) = Some takes_back
-outcome_reply n (Ok (Filled t)) = Some (fills (codes (take n t)))
-outcome_reply n (Err f) = Some (refused (fault_refusal f))
+abbrev pub asked_rows : List Element → Result Element Refusal → List Figured
+asked_rows ws (Ok v) = record { row = weights_of ws; figure = v.0 } ∷ []
+asked_rows ws (Err e) = []
+
+abbrev pub AsksRow : {S V : Type 0} {GS : server.Ghosts S V} {GV : field.Ghosts V} → Session S V GS GV → List Element → Result Element Refusal → Session S V GS GV → Type 0
+AsksRow x ws r x' = Leads x (λ σ es. Asked ws (asked_told r) es × (answered_by σ es ≡ asked_rows ws r)) x'
+
+abbrev pub tried_told : {T : Type 0} → Result T Refusal → Told
+tried_told (Ok x) = granted
+tried_told (Err e) = refused e
+
+abbrev pub TriesRow : {S V T : Type 0} {GS : server.Ghosts S V} {GV : field.Ghosts V} → Session S V GS GV → List Element → Result T Refusal → Session S V GS GV → Type 0
+TriesRow x ws r x' = Leads x (λ σ es. Tried ws (tried_told r) es × (answered_by σ es ≡ [])) x'
+
+abbrev pub table_event : ℕ → ℕ → ℕ → Result (List Element) Refusal → Event
+table_event n i a (Ok t) = witnessed i a n (codes (take n t))
+table_event n i a (Err e) = law.refused (witnesses i a n) e
+
+abbrev pub MakesWitness : {S V : Type 0} {GS : server.Ghosts S V} {GV : field.Ghosts V} → Session S V GS GV → ℕ → ℕ → Result (List Element) Refusal → Type 0
+MakesWitness x i a r = Follows x (table_event (members_of x) i a r) x
+
+abbrev pub outcome_told : ℕ → Result Outcome RequestFault → Option Told
+outcome_told n (Ok Skipped) = None
+outcome_told n (Ok (Answered w v)) = Some (figure v.0)
+outcome_told n (Ok Granted) = Some granted
+outcome_told n (Ok (Filled t)) = Some (table (codes (take n t)))
+outcome_told n (Err f) = Some (refused (fault_refusal f))
 
 abbrev pub outcome_rows : ℕ → Result Outcome RequestFault → List Figured
-outcome_rows n (Ok Skipped) = []
 outcome_rows n (Ok (Answered w v)) = figured_with n w v.0
-outcome_rows n (Ok Granted) = []
-outcome_rows n (Ok (Filled t)) = []
-outcome_rows n (Err f) = []
+outcome_rows n _ = []
 
--- for every history that x stands for, x' stands for one that P tells of
-abbrev pub Leads : {S V : Type 0} {GS : server.Ghosts S V} {GV : field.Ghosts V} → FieldModel → List ℕ → Session S V GS GV → Session S V GS GV → (Start → List Event → List Event → Type 0) → Type 0
-Leads M T x x' P = (s : Start) (h : List Event) → Holds M T x s h → (h' : List Event) × P s h h' × Holds M T x' s h'
-
-abbrev pub CarriedOut : {S V : Type 0} {GS : server.Ghosts S V} {GV : field.Ghosts V} → FieldModel → List ℕ → Session S V GS GV → List ℕ → Result Outcome RequestFault → Session S V GS GV → Type 0
-CarriedOut M T x line r x' =
-    Leads M T x x' (λ s h. Handled M (length T) (value_at T) s h line (outcome_reply (length T) r) (outcome_rows (length T) r))
+abbrev pub CarriedOut : {S V : Type 0} {GS : server.Ghosts S V} {GV : field.Ghosts V} → Session S V GS GV → List ℕ → Result Outcome RequestFault → Session S V GS GV → Type 0
+CarriedOut {GV = GV} x bytes r x' =
+    Leads x
+    (λ σ es.
+    Handled GV.model (length σ.table) bytes (outcome_told (members_of x) r) es × (answered_by σ es ≡ outcome_rows (members_of x) r))
+    x'
 
 -- what the text of the line was read as; a table is 0 from the count on
 abbrev pub ReadAs : FieldModel → ℕ → List ℕ → Result Outcome RequestFault → Type 0
-ReadAs M n line (Ok Skipped) = reading (limits M n) line ≡ Ok Remark
-ReadAs M n line (Ok (Answered w v)) = reading (limits M n) line ≡ Ok (Ask w)
-ReadAs M n line (Ok Granted) = (w : Weights) × (reading (limits M n) line ≡ Ok (Try w))
-ReadAs M n line (Ok (Filled t)) =
-    ((i : Member) × (a : Element) × (reading (limits M n) line ≡ Ok (Witness i a))) × ((m : ℕ) → n ≤ m → weights_of t m ≡ 0)
-ReadAs M n line (Err (Line f)) = reading (limits M n) line ≡ Err f
-ReadAs M n line (Err (Call e)) = (q : Request) × (reading (limits M n) line ≡ Ok q)
+ReadAs M n bytes (Ok Skipped) = reading (limits M n) bytes ≡ Ok Remark
+ReadAs M n bytes (Ok (Answered w v)) = reading (limits M n) bytes ≡ Ok (Ask w)
+ReadAs M n bytes (Ok Granted) = (w : Weights) × (reading (limits M n) bytes ≡ Ok (Try w))
+ReadAs M n bytes (Ok (Filled t)) =
+    ((i : Member) × (a : Element) × (reading (limits M n) bytes ≡ Ok (Witness i a))) × ((m : ℕ) → n ≤ m → weights_of t m ≡ 0)
+ReadAs M n bytes (Err (Line f)) = reading (limits M n) bytes ≡ Err f
+ReadAs M n bytes (Err (Call e)) = (q : Request) × (reading (limits M n) bytes ≡ Ok q)

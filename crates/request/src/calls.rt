@@ -1,11 +1,8 @@
 // A line, read and carried out: the calls that it makes of the session, and what comes of it.
-ghost use Rattle.std.specs.Prelude.{◌≡◌, ℕ, ◌≤◌, length, IfOk};
+ghost use Rattle.std.specs.Prelude.{◌≡◌, ℕ, ◌≤◌, IfOk, OnErr};
 ghost use Rattle.field.specs.Sums.{weights_of};
-ghost use Rattle.server.specs.Tables.{value_at};
-ghost use Rattle.history.specs.Events.{witnesses};
-ghost use Rattle.session.specs.Views.{Steps, figure_reply, withdrawal_reply};
-ghost use Rattle.request.specs.Requests.{Asked, Tried};
-ghost use Rattle.request.specs.Carried.{table_reply, Leads, CarriedOut, ReadAs};
+ghost use Rattle.session.specs.States.{server_of, members_of};
+ghost use Rattle.request.specs.Carried.{AsksRow, TriesRow, MakesWitness, CarriedOut, ReadAs};
 
 use crate::faults::RequestFault;
 use crate::outcome::Outcome;
@@ -17,20 +14,23 @@ use session::Session;
 
 // Submits a row, and answers it.
 fn ask<S: Server>(session: &mut Session<S>, row: &[Element]) -> Result<Element, Refusal>
-    ensures server { session.new.server ≡ session.old.server }
-    ensures law { Leads S.Over.Field.model (S.Server.table session.old.server) session.old session.new (λ s h. Asked S.Over.Field.model (length (S.Server.table session.old.server)) (value_at (S.Server.table session.old.server)) s h row.now (figure_reply result)) }
+    ensures server { server_of session.new ≡ server_of session.old }
+    ensures refused { OnErr result (session.new ≡ session.old) }
+    ensures law { AsksRow session.old row.now result session.new }
 {
     let mut permit = session.submit(row)?;
-    session.answer(&mut permit)
+    Ok(session.answer(&mut permit).unwrap())
 }
 
 // Submits a row, and withdraws it.
 fn attempt<S: Server>(session: &mut Session<S>, row: &[Element]) -> Result<(), Refusal>
-    ensures server { session.new.server ≡ session.old.server }
-    ensures law { Leads S.Over.Field.model (S.Server.table session.old.server) session.old session.new (λ s h. Tried S.Over.Field.model (length (S.Server.table session.old.server)) (value_at (S.Server.table session.old.server)) s h row.now (withdrawal_reply result)) }
+    ensures server { server_of session.new ≡ server_of session.old }
+    ensures refused { OnErr result (session.new ≡ session.old) }
+    ensures law { TriesRow session.old row.now result session.new }
 {
     let mut permit = session.submit(row)?;
-    session.withdraw(&mut permit)
+    session.withdraw(&mut permit).unwrap();
+    Ok(())
 }
 
 // The witness table for a member and an element, 0 from the count on.
@@ -39,8 +39,8 @@ fn witness_table<S: Server>(
     member: Member,
     element: Element,
 ) -> Result<[Element; 64], Refusal>
-    ensures zero { IfOk result (λ t. (m : ℕ) → length (S.Server.table session.now.server) ≤ m → weights_of t m ≡ 0) }
-    ensures law { Steps S.Over.Field.model (S.Server.table session.now.server) session.now (witnesses member.0 element.0 (length (S.Server.table session.now.server))) (table_reply (length (S.Server.table session.now.server)) result) session.now }
+    ensures zero { IfOk result (λ t. (m : ℕ) → members_of session.now ≤ m → weights_of t m ≡ 0) }
+    ensures law { MakesWitness session.now member.0 element.0 result }
 {
     let mut table = [Element(0); 64];
     session.witness(member, element, &mut table[..session.count()])?;
@@ -49,9 +49,10 @@ fn witness_table<S: Server>(
 
 // Reads a line, and makes the calls that it wants.
 pub fn carry_out<S: Server>(session: &mut Session<S>, line: &[u8]) -> Result<Outcome, RequestFault>
-    ensures server { session.new.server ≡ session.old.server }
-    ensures read { ReadAs S.Over.Field.model (length (S.Server.table session.old.server)) line.now result }
-    ensures law { CarriedOut S.Over.Field.model (S.Server.table session.old.server) session.old line.now result session.new }
+    ensures server { server_of session.new ≡ server_of session.old }
+    ensures refused { OnErr result (session.new ≡ session.old) }
+    ensures read { ReadAs S.Over.Field.model (members_of session.old) line.now result }
+    ensures law { CarriedOut session.old line.now result session.new }
 {
     let n = session.count();
     match read_line::<S::Over>(line, n)? {

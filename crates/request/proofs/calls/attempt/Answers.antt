@@ -1,33 +1,28 @@
-use Rattle.std.proofs.Common.{◌≡◌, ℕ, List, ap, ◌∙◌, subst}
+use Rattle.std.proofs.Common.{Result, subst}
 use Rattle.std.proofs.lemmas.Result.{err_from_is_err_and}
-use Rattle.history.specs.Events.{withdraws}
-use Rattle.session.specs.Views.{Steps, withdrawal_reply}
-use Rattle.request.proofs.Spent.{try_refused, try_withdrawn}
+use Rattle.refusal.specs.declared.Refusal.{Refusal}
+use Rattle.law.specs.States.{withdrew}
+use Rattle.session.specs.States.{Follows, withdraw_event}
+use Rattle.request.proofs.Made.{not_refused, try_refused_so, try_granted_so}
 use Rattle.request.proofs.calls.attempt.Goals as goal
 
 pub returns-in_err-permit : goal.returns-in_err-permit
 returns-in_err-permit g c =
-    let x = c.args.session.now in
     let at = c.in_err-permit.ensures in
     let p = err_from_is_err_and c.from_residual.result c.from_residual.ensures.1 in
     rw (p.1, p.2)
     (record {
       server = at.server;
-      law = try_refused g.S.Over.Field.model (g.S.Server.table x.server) x c.submit.new.self c.args.row.now c.in_err-permit.field-0.0 at.law;
+      refused = at.refused;
+      law = try_refused_so c.args.session.now c.submit.new.self c.args.row.now _ c.in_err-permit.field-0.0 at.law;
     })
 
-pub returns : goal.returns
-returns g c =
-    let M = g.S.Over.Field.model in
-    let x = c.args.session.now in
-    let x₁ = c.submit.new.self in
-    let x₂ = c.withdraw.new.self in
-    let T = g.S.Server.table x.server in
-    let at = c.in_ok-permit.ensures in
-    let tables : g.S.Server.table x₁.server ≡ T = ap g.S.Server.table at.server in
-    let step : Steps M T x₁ (withdraws c.in_ok-permit.permit.number) (withdrawal_reply c.withdraw.result) x₂ =
-    subst (λ (l : List ℕ). Steps M l x₁ (withdraws c.in_ok-permit.permit.number) (withdrawal_reply c.withdraw.result) x₂) tables c.withdraw.ensures.law in
-    record {
-      server = c.withdraw.ensures.server ∙ at.server;
-      law = try_withdrawn M T x x₁ c.args.row.now c.in_ok-permit.permit.number at.law x₂ c.withdraw.result step;
-    }
+pub unwrap-requires : goal.unwrap-requires
+unwrap-requires g c = not_refused c.withdraw.result _ _ c.withdraw.ensures.not_open c.in_ok-permit.ensures.opens
+
+pub returns-clause-law : goal.returns-clause-law
+returns-clause-law g c =
+    let k = c.in_ok-permit.permit.number in
+    let step : Follows c.submit.new.self (withdrew k) c.withdraw.new.self =
+    subst (λ (r : Result (Unit {0}) Refusal). Follows c.submit.new.self (withdraw_event k r) c.withdraw.new.self) c.unwrap.ensures c.withdraw.ensures.law in
+    try_granted_so c.args.session.now c.submit.new.self c.args.row.now k c.in_ok-permit.ensures.law c.withdraw.new.self tt step

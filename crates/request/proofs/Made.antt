@@ -1,0 +1,42 @@
+-- The calls that a row makes, by the law: the run of their events. Assumes nothing.
+use Rattle.std.proofs.Common.{◌≡◌, ℕ, true, ◌≢◌, List, [], ◌∷◌, is_ok, Some, Ok, Err, Option, Result, OnErr, refl}
+use Rattle.refusal.specs.declared.Refusal.{Refusal}
+use Rattle.field.specs.declared.Field as field
+use Rattle.server.specs.declared.Server as server
+use Rattle.field.specs.declared.Element.{Element}
+use Rattle.law.specs.States.{State, Event, submits, refused, permitted, answered, withdrew, after}
+use Rattle.law.specs.Law.{Lawful, ends, goes_on}
+use Rattle.session.specs.States.{Holds, Follows, Leads}
+use Rattle.session.specs.declared.session.Session.{Session}
+use Rattle.request.specs.Requests.{ask_refused, ask_answered, try_refused, try_granted}
+use Rattle.request.specs.Carried.{AsksRow, TriesRow}
+
+-- what is refused only where a fact fails, where it holds
+pub not_refused : {T : Type 0} (r : Result T Refusal) (o p : Option ℕ) → OnErr r (o ≢ p) → o ≡ p → is_ok r ≡ true
+not_refused (Ok x) o p err is = refl
+not_refused (Err e) o p err is = absurd (err is)
+
+module _ {S V : Type 0} {GS : server.Ghosts S V} {GV : field.Ghosts V} (x x' : Session S V GS GV) where
+  -- one event
+  pub one : (e : Event) (P : State → List Event → Type 0) → Follows x e x' → ((σ : State) → P σ (e ∷ [])) → Leads x P x'
+  one e P step told σ H = let (due, next) = step σ H in (e ∷ [], after σ e, goes_on due ends, told σ, next)
+
+  module _ (ws : List Element) where
+    pub ask_refused_so : (e : Refusal) → Follows x (refused (submits ws) e) x' → AsksRow x ws (Err e) x'
+    ask_refused_so e step = one (refused (submits ws) e) _ step (λ σ. (ask_refused e, refl))
+
+    pub try_refused_so : (T : Type 0) (e : Refusal) → Follows x (refused (submits ws) e) x' → TriesRow {T = T} x ws (Err e) x'
+    try_refused_so T e step = one (refused (submits ws) e) _ step (λ σ. (try_refused e, refl))
+
+    module _ (k : ℕ) (granted : Follows x (permitted ws k) x') (x'' : Session S V GS GV) where
+      pub ask_answered_so : (v : Element) → Follows x' (answered k v.0) x'' → AsksRow x ws (Ok v) x''
+      ask_answered_so v step σ H =
+          let (due, next) = granted σ H in
+          let (due', last) = step (after σ (permitted ws k)) next in
+          (permitted ws k ∷ answered k v.0 ∷ [], _, goes_on due (goes_on due' ends), (ask_answered k v.0, refl), last)
+
+      pub try_granted_so : {T : Type 0} (u : T) → Follows x' (withdrew k) x'' → TriesRow x ws (Ok u) x''
+      try_granted_so u step σ H =
+          let (due, next) = granted σ H in
+          let (due', last) = step (after σ (permitted ws k)) next in
+          (permitted ws k ∷ withdrew k ∷ [], _, goes_on due (goes_on due' ends), (try_granted k, refl), last)
