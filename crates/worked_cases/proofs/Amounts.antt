@@ -1,5 +1,5 @@
 -- Two rows over amounts, and what they leave free. Assumes nothing.
-use Rattle.std.proofs.Common.{◌≡◌, ℕ, zero, suc, ◌+◌, ◌*◌, ◌%◌, ◌<◌, ◌≢◌, [], ◌∷◌, sym, refl, ap, ◌∙◌, subst, ap₂, arith, lit<}
+use Rattle.std.proofs.Common.{◌≡◌, ℕ, zero, suc, ◌+◌, ◌*◌, ◌%◌, ◌<◌, ◌≢◌, [], ◌∷◌, None, sym, refl, ap, ◌∙◌, subst, ap₂, arith, lit<}
 use native.Mathlib.Nat.{add-mod}
 use Rattle.refusal.specs.declared.Refusal.TheVariants.{Discloses}
 use Rattle.refusal.specs.declared.Site.TheVariants.{OfMember}
@@ -155,13 +155,14 @@ first-free =
     pins_nobody amounts [] (weights_of (weighing (1 ∷ 1 ∷ 0 ∷ []))) 1 65520 1 zeros (codes 1 65520 1 (lit< tt) (lit< tt) (lit< tt))
     (refl, tt) (λ e. omega arith) (λ e. omega arith) (λ e. omega arith)
 
+-- the state after the first row
 abbrev after_one : State
 after_one = record { table = wages; given = given_row (weighing (1 ∷ 1 ∷ 0 ∷ [])) 215 ∷ []; pending = None; issued = 1 }
 
 second_free : (i : ℕ) → PinnedBy amounts (seen after_one) (weights_of (weighing (0 ∷ 1 ∷ 1 ∷ []))) i → ⊥
 unfolding sum
 second_free =
-    pins_nobody amounts (weights_of (weighing (1 ∷ 1 ∷ 0 ∷ [])) ∷ []) (weights_of (weighing (0 ∷ 1 ∷ 1 ∷ []))) 1 65520 1 zeros
+    pins_nobody amounts (seen after_one).rows (weights_of (weighing (0 ∷ 1 ∷ 1 ∷ []))) 1 65520 1 zeros
     (codes 1 65520 1 (lit< tt) (lit< tt) (lit< tt)) (refl, (refl, tt)) (λ e. omega arith) (λ e. omega arith) (λ e. omega arith)
 
 pub two_are_answered : Lawful amounts (new_state wages) two_answered after_two

@@ -1,5 +1,5 @@
 -- Three members, and a session's events over them. Assumes nothing.
-use Rattle.std.proofs.Common.{◌≡◌, ℕ, zero, suc, ◌+◌, ◌<◌, ◌≢◌, List, [], ◌∷◌, length, None, Some, refl, subst, arith, lit<}
+use Rattle.std.proofs.Common.{◌≡◌, ℕ, zero, suc, ◌+◌, ◌<◌, ◌≢◌, List, [], ◌∷◌, length, None, refl, subst, arith, lit<}
 use Rattle.field.specs.Model.{FieldModel}
 use Rattle.field.specs.Sums.{Vector, Codes, sum, weights_of}
 use Rattle.server.specs.Checks.{Lowest}
@@ -7,8 +7,8 @@ use Rattle.server.specs.Tables.{value_at}
 use Rattle.echelon.specs.Rows.{Agree, Pins, given_row}
 use Rattle.checks.specs.Checks.{RowCheck}
 use Rattle.checks.specs.Checks as check
-use Rattle.law.specs.States.{State, Seen, seen, Event, permitted, answered, after}
-use Rattle.law.specs.Law.{PinnedBy, Due, Grants, Lawful, grants, figures, goes_on}
+use Rattle.law.specs.States.{State, seen, Event, permitted, answered, after}
+use Rattle.law.specs.Law.{Due, Grants, Lawful, grants, figures, goes_on}
 use Rattle.worked_cases.specs.Cases.{weighing, answered_row}
 
 pub of_two : (P : ℕ → Type 0) → P 0 → P 1 → (a : ℕ) → a < 2 → P a

@@ -1,5 +1,5 @@
 -- Three rows over ticks. Assumes nothing.
-use Rattle.std.proofs.Common.{◌≡◌, ℕ, ◌<◌, List, [], ◌∷◌, sym, refl, ap, ◌∙◌, ap₂, arith, lit<}
+use Rattle.std.proofs.Common.{◌≡◌, ℕ, ◌<◌, [], ◌∷◌, None, sym, refl, ap, ◌∙◌, ap₂, arith, lit<}
 use Rattle.refusal.specs.declared.Refusal.TheVariants.{Discloses}
 use Rattle.refusal.specs.declared.Site.TheVariants.{OfMember}
 use Rattle.field.specs.Model.{FieldModel, FieldLaws}
