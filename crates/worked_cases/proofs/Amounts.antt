@@ -1,18 +1,21 @@
 -- Two rows over amounts, and what they leave free. Assumes nothing.
-use Rattle.std.proofs.Common.{◌≡◌, ℕ, zero, suc, ◌+◌, ◌*◌, ◌%◌, ◌<◌, ◌≢◌, [], ◌∷◌, sym, refl, ap, ◌∙◌, subst, ap₂, arith, lit<}
+use Rattle.std.proofs.Common.{◌≡◌, ℕ, zero, suc, ◌+◌, ◌*◌, ◌%◌, ◌<◌, ◌≢◌, [], ◌∷◌, None, sym, refl, ap, ◌∙◌, subst, ap₂, arith, lit<}
 use native.Mathlib.Nat.{add-mod}
+use Rattle.refusal.specs.declared.Refusal.TheVariants.{Discloses}
+use Rattle.refusal.specs.declared.Site.TheVariants.{OfMember}
 use Rattle.field.specs.Sums.{Vector, Codes, minus, sum, weights_of}
 use Rattle.amounts.specs.Prime.{amounts}
 use Rattle.amounts.specs.Modular.{times-mod-left}
 use Rattle.amounts.specs.Inverse.{found}
-use Rattle.echelon.specs.Rows.{Pins, Fixes}
+use Rattle.server.specs.Tables.{value_at}
+use Rattle.echelon.specs.Rows.{Pins, Fixes, given_row}
 use Rattle.echelon.specs.Reduced.{at, Reduced, ReducedForm}
 use Rattle.echelon.specs.Witness.{Free, base, direction, Leads, from_free, from_pivot, Witness}
 use Rattle.checks.specs.Checks as check
-use Rattle.history.specs.Events.{new_session, given, submits, witnesses, fills, refuses}
-use Rattle.history.specs.Law.{PinnedBy, Due, Lawful, begins}
-use Rattle.history.specs.Law as law
-use Rattle.worked_cases.specs.Cases.{weighing, answered_row, wages, two_answered, two_rows}
+use Rattle.law.specs.States.{State, new_state, seen, submits, refused, witnessed}
+use Rattle.law.specs.Law.{PinnedBy, Due, Lawful, ends}
+use Rattle.law.specs.Law as law
+use Rattle.worked_cases.specs.Cases.{weighing, wages, two_answered, after_two, two_rows}
 use Rattle.worked_cases.proofs.Few.{of_two, of_three, table, none, pins_nobody, lowest-zero, passes, goes_on-answered}
 
 pub codes : (a b c : ℕ) → a < 65521 → b < 65521 → c < 65521 → Codes amounts 3 (table a b c)
@@ -126,7 +129,7 @@ reduced = record {
     other zero (suc (suc b)) few few' ne = absurd (omega arith)
     other (suc zero) (suc (suc b)) few few' ne = absurd (omega arith)
 
-pub record_of_the_two : ReducedForm amounts 3 (given new_session two_answered) two_rows
+pub record_of_the_two : ReducedForm amounts 3 after_two.given two_rows
 unfolding sum
 record_of_the_two = record {
   reduced = reduced;
@@ -137,39 +140,55 @@ record_of_the_two = record {
 }
 
 -- the sums answered
-pub sum_of_0_1 : sum amounts 3 (weights_of (weighing (1 ∷ 1 ∷ 0 ∷ []))) wages ≡ 215
+pub sum_of_0_1 : sum amounts 3 (weights_of (weighing (1 ∷ 1 ∷ 0 ∷ []))) (value_at wages) ≡ 215
 unfolding sum
 sum_of_0_1 = refl
 
-pub sum_of_1_2 : sum amounts 3 (weights_of (weighing (0 ∷ 1 ∷ 1 ∷ []))) wages ≡ 165
+pub sum_of_1_2 : sum amounts 3 (weights_of (weighing (0 ∷ 1 ∷ 1 ∷ []))) (value_at wages) ≡ 165
 unfolding sum
 sum_of_1_2 = refl
 
--- the calls: over 1, 65520, 1 both rows have the sum 0
-first-free : (i : ℕ) → PinnedBy amounts 3 [] (weighing (1 ∷ 1 ∷ 0 ∷ [])) i → ⊥
+-- the events: over 1, 65520, 1 both rows have the sum 0
+first-free : (i : ℕ) → PinnedBy amounts (seen (new_state wages)) (weights_of (weighing (1 ∷ 1 ∷ 0 ∷ []))) i → ⊥
 unfolding sum
-first-free = pins_nobody amounts [] (weighing (1 ∷ 1 ∷ 0 ∷ [])) 1 65520 1 zeros (codes 1 65520 1 (lit< tt) (lit< tt) (lit< tt)) (refl, tt) (λ e. omega arith) (λ e. omega arith) (λ e. omega arith)
+first-free =
+    pins_nobody amounts [] (weights_of (weighing (1 ∷ 1 ∷ 0 ∷ []))) 1 65520 1 zeros (codes 1 65520 1 (lit< tt) (lit< tt) (lit< tt))
+    (refl, tt) (λ e. omega arith) (λ e. omega arith) (λ e. omega arith)
 
-first-answered : Lawful amounts 3 wages new_session (answered_row (1 ∷ 1 ∷ 0 ∷ []) 1 215 [])
-first-answered =
-    goes_on-answered amounts wages [] (1 ∷ 1 ∷ 0 ∷ []) 1 215 begins (record { none_open = refl; left = lit< tt }) refl (passes amounts 1 1 0 (lit< tt) (lit< tt) (lit< tt) (λ e. omega arith)) first-free sum_of_0_1
+-- the state after the first row
+abbrev after_one : State
+after_one = record { table = wages; given = given_row (weighing (1 ∷ 1 ∷ 0 ∷ [])) 215 ∷ []; pending = None; issued = 1 }
 
-second_free : (i : ℕ) → PinnedBy amounts 3 (given new_session (answered_row (1 ∷ 1 ∷ 0 ∷ []) 1 215 [])) (weighing (0 ∷ 1 ∷ 1 ∷ [])) i → ⊥
+second_free : (i : ℕ) → PinnedBy amounts (seen after_one) (weights_of (weighing (0 ∷ 1 ∷ 1 ∷ []))) i → ⊥
 unfolding sum
 second_free =
-    pins_nobody amounts (given new_session (answered_row (1 ∷ 1 ∷ 0 ∷ []) 1 215 [])) (weighing (0 ∷ 1 ∷ 1 ∷ [])) 1 65520 1 zeros
+    pins_nobody amounts (seen after_one).rows (weights_of (weighing (0 ∷ 1 ∷ 1 ∷ []))) 1 65520 1 zeros
     (codes 1 65520 1 (lit< tt) (lit< tt) (lit< tt)) (refl, (refl, tt)) (λ e. omega arith) (λ e. omega arith) (λ e. omega arith)
 
-pub two_are_answered : Lawful amounts 3 wages new_session two_answered
+pub two_are_answered : Lawful amounts (new_state wages) two_answered after_two
 two_are_answered =
-    goes_on-answered amounts wages (answered_row (1 ∷ 1 ∷ 0 ∷ []) 1 215 []) (0 ∷ 1 ∷ 1 ∷ []) 2 165 first-answered
-    (record { none_open = refl; left = lit< tt }) refl (passes amounts 0 1 1 (lit< tt) (lit< tt) (lit< tt) (λ e. omega arith)) second_free sum_of_1_2
+    goes_on-answered amounts (new_state wages) after_two (1 ∷ 1 ∷ 0 ∷ []) 1 215 _ refl
+    (record {
+      ready = record { none_open = refl; left = lit< tt };
+      passed = passes amounts 1 1 0 (lit< tt) (lit< tt) (lit< tt) (λ e. omega arith);
+      pins_nobody = first-free;
+    })
+    sum_of_0_1
+    (goes_on-answered amounts after_one after_two (0 ∷ 1 ∷ 1 ∷ []) 2 165 [] refl
+    (record {
+      ready = record { none_open = refl; left = lit< tt };
+      passed = passes amounts 0 1 1 (lit< tt) (lit< tt) (lit< tt) (λ e. omega arith);
+      pins_nobody = second_free;
+    })
+    sum_of_1_2 ends)
 
-pub third_refused : Due amounts 3 wages new_session two_answered (submits (weighing (1 ∷ 0 ∷ 1 ∷ []))) (refuses 11 0)
+pub third_refused : Due amounts after_two (refused (submits (weighing (1 ∷ 0 ∷ 1 ∷ []))) (Discloses (OfMember (record { 0 = 0 }))))
 unfolding sum
 third_refused =
-    law.discloses (weighing (1 ∷ 0 ∷ 1 ∷ [])) 0 (record { none_open = refl; left = lit< tt }) (passes amounts 1 0 1 (lit< tt) (lit< tt) (lit< tt) (λ e. omega arith))
-    (lowest-zero (PinnedBy amounts 3 (given new_session two_answered) (weighing (1 ∷ 0 ∷ 1 ∷ []))) (lit< tt, pinned))
+    law.refuses (submits (weighing (1 ∷ 0 ∷ 1 ∷ []))) (Discloses (OfMember (record { 0 = 0 })))
+    (law.discloses (weighing (1 ∷ 0 ∷ 1 ∷ [])) 0 (record { none_open = refl; left = lit< tt })
+    (passes amounts 1 0 1 (lit< tt) (lit< tt) (lit< tt) (λ e. omega arith))
+    (lowest-zero (PinnedBy amounts (seen after_two) (weights_of (weighing (1 ∷ 0 ∷ 1 ∷ [])))) (lit< tt, pinned)))
 
 -- member 2 is free
 free_2 : Free two_rows 2
@@ -199,10 +218,22 @@ witnessed_70 = record {
   table = of_three (λ m. table 120 95 70 m ≡ amounts.plus (base two_rows m) (amounts.times 70 (direction amounts two_rows 2 m))) refl refl refl;
 }
 
-pub witness_of_0 : Due amounts 3 wages new_session two_answered (witnesses 0 0 3) (fills (0 ∷ 215 ∷ 65471 ∷ []))
+pub witness_of_0 : Due amounts after_two (witnessed 0 0 3 (0 ∷ 215 ∷ 65471 ∷ []))
 witness_of_0 =
-    law.witness_filled 0 0 3 two_rows (0 ∷ 215 ∷ 65471 ∷ []) (check.accepted (lit< tt) (lit< tt) refl) record_of_the_two refl witnessed_0
+    law.fills 0 0 3 (0 ∷ 215 ∷ 65471 ∷ []) (record {
+      passed = check.accepted (lit< tt) (lit< tt) refl;
+      long = refl;
+      rec = two_rows;
+      form = record_of_the_two;
+      made = witnessed_0;
+    })
 
-pub witness_of_70 : Due amounts 3 wages new_session two_answered (witnesses 2 70 3) (fills (120 ∷ 95 ∷ 70 ∷ []))
+pub witness_of_70 : Due amounts after_two (witnessed 2 70 3 (120 ∷ 95 ∷ 70 ∷ []))
 witness_of_70 =
-    law.witness_filled 2 70 3 two_rows (120 ∷ 95 ∷ 70 ∷ []) (check.accepted (lit< tt) (lit< tt) refl) record_of_the_two refl witnessed_70
+    law.fills 2 70 3 (120 ∷ 95 ∷ 70 ∷ []) (record {
+      passed = check.accepted (lit< tt) (lit< tt) refl;
+      long = refl;
+      rec = two_rows;
+      form = record_of_the_two;
+      made = witnessed_70;
+    })

@@ -1,14 +1,17 @@
 -- Three rows over ticks. Assumes nothing.
-use Rattle.std.proofs.Common.{◌≡◌, ℕ, ◌<◌, List, [], ◌∷◌, sym, refl, ap, ◌∙◌, ap₂, arith, lit<}
+use Rattle.std.proofs.Common.{◌≡◌, ℕ, ◌<◌, [], ◌∷◌, None, sym, refl, ap, ◌∙◌, ap₂, arith, lit<}
+use Rattle.refusal.specs.declared.Refusal.TheVariants.{Discloses}
+use Rattle.refusal.specs.declared.Site.TheVariants.{OfMember}
 use Rattle.field.specs.Model.{FieldModel, FieldLaws}
-use Rattle.field.specs.Sums.{Vector, Codes, sum}
+use Rattle.field.specs.Sums.{Vector, Codes, sum, weights_of}
 use Rattle.field.proofs.Zero.{zero-code, zero_right, zero-times}
 use Rattle.ticks.specs.Polynomials.{ticks_field, double, by_bits, product}
 use Rattle.ticks.specs.Laws.{laws}
-use Rattle.history.specs.Events.{Event, new_session, given, submits, refuses}
-use Rattle.history.specs.Law.{PinnedBy, Due, Lawful, begins}
-use Rattle.history.specs.Law as law
-use Rattle.worked_cases.specs.Cases.{weighing, answered_row, shifts, three_answered}
+use Rattle.echelon.specs.Rows.{given_row}
+use Rattle.law.specs.States.{State, new_state, seen, submits, refused}
+use Rattle.law.specs.Law.{PinnedBy, Due, Lawful, ends}
+use Rattle.law.specs.Law as law
+use Rattle.worked_cases.specs.Cases.{weighing, shifts, three_answered, after_three}
 use Rattle.worked_cases.proofs.Few.{of_three, table, none, pins_nobody, lowest-zero, passes, goes_on-answered}
 
 -- over every field: what all three members have, less what the last two have, is what the first has
@@ -56,45 +59,66 @@ zeros = codes 0 0 0 (lit< tt) (lit< tt) (lit< tt)
 ones : Codes ticks_field 3 (table 1 1 1)
 ones = codes 1 1 1 (lit< tt) (lit< tt) (lit< tt)
 
--- the histories of the first row, and of the first two
-abbrev one_answered : List Event
-one_answered = answered_row (1 ∷ 1 ∷ 0 ∷ []) 1 6 []
+-- the states after the first row, and after the first two
+abbrev after_one : State
+after_one = record { table = shifts; given = given_row (weighing (1 ∷ 1 ∷ 0 ∷ [])) 6 ∷ []; pending = None; issued = 1 }
 
-abbrev two_answered : List Event
-two_answered = answered_row (0 ∷ 1 ∷ 1 ∷ []) 2 13 one_answered
+abbrev after_two : State
+after_two = record {
+  table = shifts;
+  given = given_row (weighing (0 ∷ 1 ∷ 1 ∷ [])) 13 ∷ given_row (weighing (1 ∷ 1 ∷ 0 ∷ [])) 6 ∷ [];
+  pending = None;
+  issued = 2;
+}
 
 -- over 1, 1, 1 each of the three rows has the sum 0
-first-free : (i : ℕ) → PinnedBy ticks_field 3 [] (weighing (1 ∷ 1 ∷ 0 ∷ [])) i → ⊥
+first-free : (i : ℕ) → PinnedBy ticks_field (seen (new_state shifts)) (weights_of (weighing (1 ∷ 1 ∷ 0 ∷ []))) i → ⊥
 unfolding sum double by_bits product
 first-free =
-    pins_nobody ticks_field [] (weighing (1 ∷ 1 ∷ 0 ∷ [])) 1 1 1 zeros ones (refl, tt) (λ e. omega arith) (λ e. omega arith) (λ e. omega arith)
+    pins_nobody ticks_field [] (weights_of (weighing (1 ∷ 1 ∷ 0 ∷ []))) 1 1 1 zeros ones (refl, tt) (λ e. omega arith) (λ e. omega arith) (λ e. omega arith)
 
-second_free : (i : ℕ) → PinnedBy ticks_field 3 (given new_session one_answered) (weighing (0 ∷ 1 ∷ 1 ∷ [])) i → ⊥
+second_free : (i : ℕ) → PinnedBy ticks_field (seen after_one) (weights_of (weighing (0 ∷ 1 ∷ 1 ∷ []))) i → ⊥
 unfolding sum double by_bits product
 second_free =
-    pins_nobody ticks_field (given new_session one_answered) (weighing (0 ∷ 1 ∷ 1 ∷ [])) 1 1 1 zeros ones (refl, (refl, tt)) (λ e. omega arith) (λ e. omega arith) (λ e. omega arith)
+    pins_nobody ticks_field (seen after_one).rows (weights_of (weighing (0 ∷ 1 ∷ 1 ∷ []))) 1 1 1 zeros ones (refl, (refl, tt)) (λ e. omega arith)
+    (λ e. omega arith) (λ e. omega arith)
 
-third_free : (i : ℕ) → PinnedBy ticks_field 3 (given new_session two_answered) (weighing (1 ∷ 0 ∷ 1 ∷ [])) i → ⊥
+third_free : (i : ℕ) → PinnedBy ticks_field (seen after_two) (weights_of (weighing (1 ∷ 0 ∷ 1 ∷ []))) i → ⊥
 unfolding sum double by_bits product
 third_free =
-    pins_nobody ticks_field (given new_session two_answered) (weighing (1 ∷ 0 ∷ 1 ∷ [])) 1 1 1 zeros ones (refl, (refl, (refl, tt))) (λ e. omega arith) (λ e. omega arith) (λ e. omega arith)
+    pins_nobody ticks_field (seen after_two).rows (weights_of (weighing (1 ∷ 0 ∷ 1 ∷ []))) 1 1 1 zeros ones (refl, (refl, (refl, tt))) (λ e. omega arith)
+    (λ e. omega arith) (λ e. omega arith)
 
-pub three_are_answered : Lawful ticks_field 3 shifts new_session three_answered
+pub three_are_answered : Lawful ticks_field (new_state shifts) three_answered after_three
 unfolding sum double by_bits product
 three_are_answered =
-    let first =
-    goes_on-answered ticks_field shifts [] (1 ∷ 1 ∷ 0 ∷ []) 1 6 begins (record { none_open = refl; left = lit< tt }) refl
-    (passes ticks_field 1 1 0 (lit< tt) (lit< tt) (lit< tt) (λ e. omega arith)) first-free refl in
-    let second =
-    goes_on-answered ticks_field shifts one_answered (0 ∷ 1 ∷ 1 ∷ []) 2 13 first (record { none_open = refl; left = lit< tt }) refl
-    (passes ticks_field 0 1 1 (lit< tt) (lit< tt) (lit< tt) (λ e. omega arith)) second_free refl in
-    goes_on-answered ticks_field shifts two_answered (1 ∷ 0 ∷ 1 ∷ []) 3 11 second (record { none_open = refl; left = lit< tt }) refl
-    (passes ticks_field 1 0 1 (lit< tt) (lit< tt) (lit< tt) (λ e. omega arith)) third_free refl
+    goes_on-answered ticks_field (new_state shifts) after_three (1 ∷ 1 ∷ 0 ∷ []) 1 6 _ refl
+    (record {
+      ready = record { none_open = refl; left = lit< tt };
+      passed = passes ticks_field 1 1 0 (lit< tt) (lit< tt) (lit< tt) (λ e. omega arith);
+      pins_nobody = first-free;
+    })
+    refl
+    (goes_on-answered ticks_field after_one after_three (0 ∷ 1 ∷ 1 ∷ []) 2 13 _ refl
+    (record {
+      ready = record { none_open = refl; left = lit< tt };
+      passed = passes ticks_field 0 1 1 (lit< tt) (lit< tt) (lit< tt) (λ e. omega arith);
+      pins_nobody = second_free;
+    })
+    refl
+    (goes_on-answered ticks_field after_two after_three (1 ∷ 0 ∷ 1 ∷ []) 3 11 [] refl
+    (record {
+      ready = record { none_open = refl; left = lit< tt };
+      passed = passes ticks_field 1 0 1 (lit< tt) (lit< tt) (lit< tt) (λ e. omega arith);
+      pins_nobody = third_free;
+    })
+    refl ends))
 
-pub all_refused : Due ticks_field 3 shifts new_session three_answered (submits (weighing (1 ∷ 1 ∷ 1 ∷ []))) (refuses 11 0)
+pub all_refused : Due ticks_field after_three (refused (submits (weighing (1 ∷ 1 ∷ 1 ∷ []))) (Discloses (OfMember (record { 0 = 0 }))))
 unfolding sum
 all_refused =
-    law.discloses (weighing (1 ∷ 1 ∷ 1 ∷ [])) 0 (record { none_open = refl; left = lit< tt })
+    law.refuses (submits (weighing (1 ∷ 1 ∷ 1 ∷ []))) (Discloses (OfMember (record { 0 = 0 })))
+    (law.discloses (weighing (1 ∷ 1 ∷ 1 ∷ [])) 0 (record { none_open = refl; left = lit< tt })
     (passes ticks_field 1 1 1 (lit< tt) (lit< tt) (lit< tt) (λ e. omega arith))
-    (lowest-zero (PinnedBy ticks_field 3 (given new_session three_answered) (weighing (1 ∷ 1 ∷ 1 ∷ [])))
-    (lit< tt, λ t u ct cu same. pinned ticks_field laws t u ct cu same.0 same.1.1.0))
+    (lowest-zero (PinnedBy ticks_field (seen after_three) (weights_of (weighing (1 ∷ 1 ∷ 1 ∷ []))))
+    (lit< tt, λ t u ct cu same. pinned ticks_field laws t u ct cu same.0 same.1.1.0)))
