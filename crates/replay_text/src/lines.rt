@@ -2,7 +2,8 @@
 ghost use Rattle.std.specs.Prelude.{◌≡◌, ◌<◌, ◌≤◌, length};
 ghost use Rattle.buffer.specs.Buffers.{Put};
 ghost use Rattle.log_record.specs.Joins.{rows_bytes};
-ghost use Rattle.request.specs.Carried.{outcome_reply, outcome_rows};
+ghost use Rattle.session.specs.States.{server_of};
+ghost use Rattle.request.specs.Carried.{outcome_told, outcome_rows};
 ghost use Rattle.replay_text.specs.Replays.{printed};
 ghost use Rattle.replay_text.specs.Handling.{Loggable, LineDone};
 
@@ -26,8 +27,8 @@ fn print(number: usize, n: usize, came: &Result<Outcome, RequestFault>, out: &mu
     requires { n ≤ 64 }
     ensures within { result ≤ length out.old }
     ensures length { length out.new ≡ length out.old }
-    ensures put { length (printed number (outcome_reply n came.now)) ≤ length out.old → Put (printed number (outcome_reply n came.now)) out.old out.new result }
-    ensures none { length out.old < length (printed number (outcome_reply n came.now)) → (result ≡ 0) × (out.new ≡ out.old) }
+    ensures put { length (printed number (outcome_told n came.now)) ≤ length out.old → Put (printed number (outcome_told n came.now)) out.old out.new result }
+    ensures none { length out.old < length (printed number (outcome_told n came.now)) → (result ≡ 0) × (out.new ≡ out.old) }
 {
     let answer = match came {
         Ok(Outcome::Skipped) => return 0,
@@ -66,10 +67,10 @@ pub(crate) fn handle_line<S: Server>(
     requires number { number < 100000 }
     requires answers { 392 ≤ length answers.old }
     requires log { 139 ≤ length log.old }
-    ensures server { session.new.server ≡ session.old.server }
+    ensures server { server_of session.new ≡ server_of session.old }
     ensures within { (result.answers ≤ length answers.old) × (result.log ≤ length log.old) }
     ensures lengths { (length answers.new ≡ length answers.old) × (length log.new ≡ length log.old) }
-    ensures done { LineDone S.Over.Field.model (S.Server.table session.old.server) session.old number line.now answers.old log.old session.new answers.new log.new result }
+    ensures done { LineDone session.old number line.now answers.old log.old session.new answers.new log.new result }
 {
     let n = session.count();
     let came = carry_out(session, line);

@@ -1,11 +1,10 @@
 // A whole replay.
-ghost use Rattle.std.specs.Prelude.{◌≡◌, ◌≤◌, ◌∷◌, ◌++◌, length, Some, MatchResult};
+ghost use Rattle.std.specs.Prelude.{◌≡◌, ◌≤◌, ◌∷◌, ◌++◌, length, Some, IfSome, MatchResult};
 ghost use Rattle.buffer.specs.Buffers.{Front};
-ghost use Rattle.server.specs.Tables.{value_at};
 ghost use Rattle.answer_log.specs.Rows.{header_bytes};
-ghost use Rattle.history.specs.Theorems.{JudgingIsExact, EveryValueStaysPossible, ValuesAreNotSeen};
-ghost use Rattle.request.specs.Carried.{Leads};
-ghost use Rattle.replay_text.specs.Replays.{NoNewline, Stops, Replayed};
+ghost use Rattle.session.specs.States.{server_of, members_of};
+ghost use Rattle.replay_text.specs.Replays.{NoNewline, Stops};
+ghost use Rattle.replay_text.specs.Handling.{Replays};
 
 use crate::lines::handle_line;
 use crate::outcome::{Replay, Stop};
@@ -48,9 +47,9 @@ fn handle_lines<S: Server>(
     header: usize,
 ) -> Replay
     requires text { length text.now ≤ 65536 }
-    requires header { Front log.old log.old (header_bytes S.Over.Field.model (length (S.Server.table session.old.server))) header }
-    ensures server { session.new.server ≡ session.old.server }
-    ensures law { Leads S.Over.Field.model (S.Server.table session.old.server) session.old session.new (λ s h h'. Replayed S.Over.Field.model (length (S.Server.table session.old.server)) (value_at (S.Server.table session.old.server)) s h text.now answers.old log.old result h' answers.new log.new) }
+    requires header { Front log.old log.old (header_bytes S.Over.Field.model (members_of session.old)) header }
+    ensures server { server_of session.new ≡ server_of session.old }
+    ensures law { Replays session.old text.now answers.old log.old result answers.new log.new session.new }
 {
     let mut done = Replay {
         lines: 0,
@@ -88,11 +87,11 @@ pub fn replay<S: Server>(
     answers: &mut [u8],
     log: &mut [u8],
 ) -> Replay
-    ensures server { session.new.server ≡ session.old.server }
-    ensures law { Leads S.Over.Field.model (S.Server.table session.old.server) session.old session.new (λ s h h'. Replayed S.Over.Field.model (length (S.Server.table session.old.server)) (value_at (S.Server.table session.old.server)) s h text.now answers.old log.old result h' answers.new log.new) }
-    ensures exact { JudgingIsExact }
-    ensures possible { EveryValueStaysPossible }
-    ensures unseen { ValuesAreNotSeen }
+    ensures server { server_of session.new ≡ server_of session.old }
+    ensures law { Replays session.old text.now answers.old log.old result answers.new log.new session.new }
+    ensures not_begun { IfSome result.stop (λ x. x.line ≡ 0 → session.new ≡ session.old) }
+    ensures not_printed { IfSome result.stop (λ x. x.line ≡ 0 → answers.new ≡ answers.old) }
+    ensures not_logged { IfSome result.stop (λ x. x.line ≡ 0 → log.new ≡ log.old) }
 {
     if text.len() > LONGEST {
         return Replay::not_begun(Refusal::TextTooLong);

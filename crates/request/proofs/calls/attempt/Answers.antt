@@ -14,7 +14,7 @@ returns-in_err-permit g c =
     (record {
       server = at.server;
       refused = at.refused;
-      law = try_refused_so c.args.session.now c.submit.new.self c.args.row.now _ c.in_err-permit.field-0.0 at.law;
+      law = try_refused_so c.args.session.now c.submit.new.self c.args.row.now (Unit {0}) c.in_err-permit.field-0.0 at.law;
     })
 
 pub unwrap-requires : goal.unwrap-requires
@@ -25,4 +25,4 @@ returns-clause-law g c =
     let k = c.in_ok-permit.permit.number in
     let step : Follows c.submit.new.self (withdrew k) c.withdraw.new.self =
     subst (λ (r : Result (Unit {0}) Refusal). Follows c.submit.new.self (withdraw_event k r) c.withdraw.new.self) c.unwrap.ensures c.withdraw.ensures.law in
-    try_granted_so c.args.session.now c.submit.new.self c.args.row.now k c.in_ok-permit.ensures.law c.withdraw.new.self tt step
+    try_granted_so c.args.session.now c.submit.new.self c.args.row.now k c.in_ok-permit.ensures.law c.withdraw.new.self (tt {0}) step
