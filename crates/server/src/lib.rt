@@ -10,6 +10,7 @@ use field::{Element, Field};
 use refusal::Member;
 
 mod array;
+mod lent;
 mod pair;
 
 pub use array::Array;

@@ -5,3 +5,4 @@ pub mod Admitted
 pub mod Padded
 pub mod Witnessed
 pub mod Resuming
+pub mod Running
