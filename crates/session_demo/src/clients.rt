@@ -1,6 +1,7 @@
 // Two clients of a session: one has a row answered, one tries a row and takes it back. They are what any client writes, and so
 // stand here and not in a crate below.
 ghost use Rattle.std.specs.Prelude.{◌≡◌};
+ghost use Rattle.session.specs.States.{server_of, record_of};
 
 use field::Element;
 use refusal::Refusal;
@@ -12,7 +13,7 @@ pub(crate) fn ask_once<S: Server>(
     session: &mut Session<S>,
     weights: &[Element],
 ) -> Result<Element, Refusal>
-    ensures server { session.new.server ≡ session.old.server }
+    ensures server { server_of session.new ≡ server_of session.old }
 {
     let mut permit = session.submit(weights)?;
     session.answer(&mut permit)
@@ -23,8 +24,8 @@ pub(crate) fn try_once<S: Server>(
     session: &mut Session<S>,
     weights: &[Element],
 ) -> Result<(), Refusal>
-    ensures server { session.new.server ≡ session.old.server }
-    ensures kept { session.new.record ≡ session.old.record }
+    ensures server { server_of session.new ≡ server_of session.old }
+    ensures kept { record_of session.new ≡ record_of session.old }
 {
     let mut permit = session.submit(weights)?;
     session.withdraw(&mut permit)

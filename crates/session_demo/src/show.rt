@@ -42,11 +42,19 @@ impl fmt::Display for Asked<'_> {
     }
 }
 
-// The reply to a call, or its refusal, where a filled buffer counts for so many members.
+// What a witness call brought, and holds then; nothing of another call.
+fn buffer<'a>(call: &'a Call) -> &'a [Element] {
+    match call {
+        Call::Witness(_, _, buffer) => buffer,
+        _ => &[],
+    }
+}
+
+// The reply to a call, or its refusal; of a witness what its buffer then holds.
 #[derive(Clone, Copy)]
 pub(crate) struct Replied<'a> {
+    pub call: &'a Call<'a>,
     pub reply: &'a Result<Reply, Refusal>,
-    pub members: usize,
 }
 
 impl fmt::Display for Replied<'_> {
@@ -55,9 +63,9 @@ impl fmt::Display for Replied<'_> {
             Ok(Reply::Permits(number)) => write!(f, "permit {number}"),
             Ok(Reply::Gives(figure)) => write!(f, "{figure}"),
             Ok(Reply::TakenBack) => f.write_str("taken back"),
-            Ok(Reply::Fills(out)) => {
+            Ok(Reply::Filled) => {
                 let filled = Listed {
-                    elements: &out[..self.members.min(out.len())],
+                    elements: buffer(self.call),
                     between: " ",
                 };
                 write!(f, "{filled}")
