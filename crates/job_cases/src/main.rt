@@ -4,7 +4,7 @@
 use amounts::Amounts;
 use field::Field;
 use std::io;
-use survey_job::{Job, run_job};
+use survey_job::{Job, JobMemory, run_job};
 use ticks::Ticks;
 
 // A table file and a text.
@@ -90,7 +90,7 @@ fn show(rt: &HostRuntime, name: &str, job: &Job) -> io::Result<()> {
 
 fn jobs<F: Field>(rt: &HostRuntime, cases: &[Case]) -> io::Result<()> {
     for case in cases {
-        let job = run_job::<F>(rt.alloc(), case.table, case.text)?;
+        let job = run_job::<F>(JobMemory::new(rt.alloc())?, case.table, case.text);
         show(rt, case.name, &job)?;
     }
     Ok(())

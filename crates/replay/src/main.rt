@@ -7,6 +7,7 @@ ghost use Rattle.std.specs.IoError.{error_kind};
 use std::alloc::Global;
 use std::io::{ErrorKind, Read};
 use std::{fs, io};
+use survey_job::JobMemory;
 
 mod choice;
 
@@ -35,6 +36,7 @@ fn read_text<R: Read + Drop>(heap: Global, input: R) -> io::Result<Vec<u8>>
 fn main(rt: HostRuntime) -> io::Result<()> {
     let table = read_table(&rt)?;
     let text = read_text(rt.alloc(), rt.stdin())?;
-    let job = choice::run(rt.alloc(), &table, &text)?;
+    let memory = JobMemory::new(rt.alloc())?;
+    let job = choice::run(memory, &table, &text);
     rt.write_all(&job.printed)
 }

@@ -6,7 +6,8 @@ use Rattle.history.specs.Events.{Event, new_session}
 use Rattle.history.specs.Law.{Lawful}
 use Rattle.replay_text.specs.declared.outcome.Replay.{Replay}
 use Rattle.replay_text.specs.Replays.{Replayed}
-use Rattle.survey_job.specs.Jobs.{zeros, stop_text, Replays, over_new_session}
+use Rattle.survey_job.specs.Buffers.{zeros, stop_text}
+use Rattle.survey_job.specs.Jobs.{Replays, over_new_session}
 
 pub assembled :
     (M : FieldModel) (T text answers log answers' log' out logged : List ℕ) (r : Replay) (h' : List Event)

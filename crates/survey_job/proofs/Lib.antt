@@ -1,4 +1,6 @@
 mod Pairs
 mod FileFaults
 mod Buffers
+mod Zeros
+mod Used
 mod Assembled

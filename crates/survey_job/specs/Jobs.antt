@@ -1,10 +1,8 @@
 -- The job of the program `replay`: a table file and a query text go in, what is printed and the log come out.
---   zeros                         a buffer of 65,536 bytes, each 0
---   stop_text x                   the line that a stop adds after the answers; nothing where there was none
 --   Replays M T text out log      a new session on the table T, and the replay of the text over it: `out` is printed, `log` logged
 --   Printed M table text out log  the same of a table file; a refused one prints its refusal, and logs nothing
 -- Assumes nothing.
-use Rattle.std.specs.Prelude.{ℕ, List, [], ◌++◌, length, take, replicate, Some, None, Option}
+use Rattle.std.specs.Prelude.{ℕ, List, [], ◌++◌, length, take, Some, None}
 use Rattle.refusal.specs.declared.Refusal.{Refusal}
 use Rattle.refusal.specs.Numbered.{number, detail}
 use Rattle.field.specs.Model.{FieldModel}
@@ -12,17 +10,10 @@ use Rattle.server.specs.Tables.{value_at}
 use Rattle.table_file.specs.Files.{file_table, FileCheck}
 use Rattle.history.specs.Events.{Event, new_session}
 use Rattle.history.specs.Law.{Lawful}
-use Rattle.answer_text.specs.AnswerLines.{refusal_line_lem, stop_line_lem}
+use Rattle.answer_text.specs.AnswerLines.{refusal_line_lem}
 use Rattle.replay_text.specs.declared.outcome.Replay.{Replay}
-use Rattle.replay_text.specs.declared.outcome.Stop.{Stop}
 use Rattle.replay_text.specs.Replays.{Replayed}
-
-unfoldable pub zeros : List ℕ
-zeros = replicate 65536 0
-
-abbrev pub stop_text : Option Stop → List ℕ
-stop_text None = []
-stop_text (Some x) = stop_line_lem (number x.refusal) x.line
+use Rattle.survey_job.specs.Buffers.{zeros, stop_text}
 
 pub data Replays (M : FieldModel) (T text : List ℕ) : List ℕ → List ℕ → Type 0 where
   over_new_session :

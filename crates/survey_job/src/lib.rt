@@ -3,8 +3,10 @@
 #![tactic(auto)]
 
 mod jobs;
-mod lines;
+mod memory;
 mod replays;
+mod stops;
 
 pub use jobs::run_job;
+pub use memory::JobMemory;
 pub use replays::Job;

@@ -1,25 +1,48 @@
 -- Answers for `replay_new`: the new session stands for the empty history, and the replay goes on from there.
-use Rattle.std.proofs.Common.{[], ◌++◌, vec_items, sym, ap, ◌∙◌, subst, arith}
+use Rattle.std.proofs.Common.{◌≡◌, ◌≤◌, ℕ, List, [], ◌++◌, length, drop, vec_items, sym, ap, ◌∙◌, subst, arith}
 use Rattle.history.specs.Events.{new_session}
 use Rattle.session.specs.Views.{Holds}
-use Rattle.survey_job.specs.Jobs.{stop_text, Replays}
-use Rattle.survey_job.proofs.Buffers.{cut_back}
+use Rattle.survey_job.specs.Buffers.{zeros_and_line, stop_text}
+use Rattle.survey_job.specs.Jobs.{Replays}
+use Rattle.survey_job.proofs.Buffers.{cut_back, front_kept}
+use Rattle.survey_job.proofs.Zeros.{blank-length, front-length, front_blank}
+use Rattle.survey_job.proofs.Used.{answers_within}
 use Rattle.survey_job.proofs.Assembled.{assembled}
 use Rattle.survey_job.proofs.replays.replay_new.Goals as goal
+
+pub slice_bounds-replay-end : goal.slice_bounds-replay-end
+slice_bounds-replay-end g c =
+    let all = blank-length _ (c.deref_mut.ensures.value ∙ c.args.memory.blank) in omega arith
+
+pub print_stop-requires : goal.print_stop-requires
+print_stop-requires g c =
+    let M = g.S.Over.Field.model in
+    let x = c.new-session.result in
+    let holds =
+    subst (λ (s : _). Holds M (g.S.Server.table s) x new_session []) (sym c.new-session.ensures.server) c.new-session.ensures.holds in
+    let law = c.replay-done.ensures.law new_session [] holds in
+    let all = blank-length _ c.args.memory.blank in
+    let front = front-length c.deref_mut.result.now (c.deref_mut.ensures.value ∙ c.args.memory.blank) in
+    let used : c.replay-done.result.answers ≤ 65536 = answers_within _ _ _ _ _ _ _ _ _ _ _ _ 65536 law.1 c.replay-done.auto.answers front in
+    omega (arith, used, all, c.args.memory.printed.ok.0)
 
 pub returns : goal.returns
 returns g c =
     let M = g.S.Over.Field.model in
     let x = c.new-session.result in
     let r = c.replay-done.result in
+    let d = c.deref_mut.result.now in
+    let ws = c.replay-done.new.answers in
     let holds =
     subst (λ (s : _). Holds M (g.S.Server.table s) x new_session []) (sym c.new-session.ensures.server) c.new-session.ensures.holds in
     let law = c.replay-done.ensures.law new_session [] holds in
-    let answers = c.as_mut_slice.ensures in
-    let log = c.as_mut_slice-2.ensures in
-    subst (λ (s : _). Replays M (g.S.Server.table s) c.args.text.now (vec_items c.add_stop.new.printed) (vec_items c.truncate-2.new.self)) c.new-session.ensures.server
-    (assembled M (g.S.Server.table x.server) c.args.text.now _ _ c.replay-done.new.answers c.replay-done.new.log _ _ r law.0
-    (answers.value ∙ c.in_ok-printed.ensures) (log.value ∙ c.in_ok-log.ensures) law.1 law.2.lawful
-    (c.in_ok-add_stop.ensures
-    ∙ ap (λ us. us ++ stop_text r.stop) (cut_back _ _ c.replay-done.new.answers _ r.answers _ c.truncate.ensures.items (omega arith) (omega arith)))
-    (cut_back _ _ c.replay-done.new.log _ r.log _ c.truncate-2.ensures.items (omega arith) (omega arith)))
+    let blank : d ≡ zeros_and_line = c.deref_mut.ensures.value ∙ c.args.memory.blank in
+    let all = blank-length _ c.args.memory.blank in
+    let front = front-length d blank in
+    let used : r.answers ≤ 65536 = answers_within _ _ _ _ _ _ _ _ _ _ _ _ 65536 law.1 c.replay-done.auto.answers front in
+    subst (λ (s : _). Replays M (g.S.Server.table s) c.args.text.now (vec_items c.print_stop.new.printed) (vec_items c.truncate.new.self)) c.new-session.ensures.server
+    (assembled M (g.S.Server.table x.server) c.args.text.now _ _ ws c.replay-done.new.log _ _ r law.0
+    (front_blank d blank) (c.deref_mut-2.ensures.value ∙ c.args.memory.blank_log) law.1 law.2.lawful
+    (c.print_stop.ensures
+    ∙ ap (λ (us : List ℕ). us ++ stop_text r.stop) (front_kept ws (drop 65536 d) (drop (length (ws ++ drop 65536 d)) c.args.memory.printed.items) r.answers c.args.memory.printed.len (omega (arith, used, all, c.args.memory.printed.ok.0)) (omega (arith, used, front, c.replay-done.auto.answers))))
+    (cut_back _ _ c.replay-done.new.log r.log _ c.truncate.ensures.items (omega (arith, c.replay-done.auto.log, c.deref_mut-2.ensures.len))))
