@@ -9,6 +9,7 @@ pub written_if : (P : Type 0) (Q : ℕ → Type 0) (r : Option ℕ) → MatchOpt
 written_if P Q (Some k) done fits = refl
 written_if P Q None done fits = absurd (fits done)
 
+-- a line that was written, fits, and is put
 pub written_line :
     (line o ws : List ℕ) (r : Option ℕ) (k : ℕ) → Writes line o ws r → r ≡ Some k → (length line ≤ length o) × Put line o ws k
 written_line line o ws r k done is = subst (λ (x : Option ℕ). Writes line o ws x) is done

@@ -12,7 +12,8 @@ use field::Field;
 use refusal::Refusal;
 use table_file::TableFile;
 
-// The line of a refused table file, and an empty log. Such a refusal comes with a member or a map bit at most.
+// The line of a refused table file, and an empty log. Such a refusal comes with a member or a map
+// bit at most.
 fn refuse(memory: JobMemory, refusal: &Refusal) -> Job
     requires { detail refusal.now ≤ 255 }
     ensures printed { result.printed.items ≡ refusal_line_lem (number refusal.now) (detail refusal.now) }
@@ -29,7 +30,8 @@ fn refuse(memory: JobMemory, refusal: &Refusal) -> Job
     Job { printed, log }
 }
 
-// Opens a table file, and replays a text over a new session on its table. A refused file gives the line that says so.
+// Opens a table file, and replays a text over a new session on its table. A refused file gives the
+// line that says so.
 pub fn run_job<F: Field>(memory: JobMemory, table: &[u8], text: &[u8]) -> Job
     ensures printed { Printed F.model table.now text.now result.printed.items result.log.items }
     ensures exact { JudgingIsExact }

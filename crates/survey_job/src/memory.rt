@@ -8,11 +8,12 @@ use std::alloc::{AllocError, Global};
 // How many bytes the answers may take, and how many the log.
 pub(crate) const ROOM: usize = 65536;
 
-// The most bytes of the line of a stop: a mark, two numbers of 20 digits after a space each, and a newline.
+// The most bytes of the line of a stop: a mark, two numbers of 20 digits after a space each, and a
+// newline.
 const LONGEST_LINE: usize = 44;
 
-// Room for the record's rows, and two buffers of zeros: for what is printed, the answers and the line of a stop, and for
-// the log.
+// Room for the record's rows, and two buffers of zeros: one for what is printed, which is the answers
+// and the line of a stop, and one for the log.
 #[derive(Drop)]
 pub struct JobMemory {
     pub(crate) room: Room,

@@ -14,8 +14,8 @@ pub struct Job {
     pub log: Vec<u8>,
 }
 
-// Begins a session on the server, replays the text over it, and adds the line of a stop to the answers. The session ends
-// here, and the server with it, so the server must be one that may be dropped.
+// Begins a session on the server, replays the text over it, and adds the line of a stop to the
+// answers. The session ends here, and the server with it: hence `Drop`.
 pub(crate) fn replay_new<S: Server + Drop>(memory: JobMemory, server: S, text: &[u8]) -> Job
     ensures { Replays S.Over.Field.model (S.Server.table server) text.now result.printed.items result.log.items }
 {
@@ -25,7 +25,7 @@ pub(crate) fn replay_new<S: Server + Drop>(memory: JobMemory, server: S, text: &
         mut log,
     } = memory;
     let mut session = Session::new(server, room);
-    // Not `..ROOM`: of such a part of a vector's slice, proofs do not learn what is in it afterwards.
+    // Not `..ROOM`: of a vector so lent, a proof learns nothing of what is in it afterwards.
     let done = replay(&mut session, text, &mut printed[0..ROOM], &mut log[..]);
     print_stop(&mut printed, done.answers, done.stop);
     log.truncate(done.log);

@@ -23,7 +23,8 @@ print_stop-requires g c =
     let law = c.replay-done.ensures.law new_session [] holds in
     let all = blank-length _ c.args.memory.blank in
     let front = front-length c.deref_mut.result.now (c.deref_mut.ensures.value ∙ c.args.memory.blank) in
-    let used : c.replay-done.result.answers ≤ 65536 = answers_within _ _ _ _ _ _ _ _ _ _ _ _ 65536 law.1 c.replay-done.auto.answers front in
+    let used : c.replay-done.result.answers ≤ 65536 =
+    answers_within _ _ _ _ _ _ _ _ _ _ _ _ 65536 law.1 c.replay-done.auto.answers front in
     omega (arith, used, all, c.args.memory.printed.ok.0)
 
 pub returns : goal.returns
@@ -31,18 +32,24 @@ returns g c =
     let M = g.S.Over.Field.model in
     let x = c.new-session.result in
     let r = c.replay-done.result in
-    let d = c.deref_mut.result.now in
-    let ws = c.replay-done.new.answers in
     let holds =
     subst (λ (s : _). Holds M (g.S.Server.table s) x new_session []) (sym c.new-session.ensures.server) c.new-session.ensures.holds in
     let law = c.replay-done.ensures.law new_session [] holds in
-    let blank : d ≡ zeros_and_line = c.deref_mut.ensures.value ∙ c.args.memory.blank in
-    let all = blank-length _ c.args.memory.blank in
-    let front = front-length d blank in
+    let memory = c.args.memory in
+    let lent = c.deref_mut.result.now in
+    let blank : lent ≡ zeros_and_line = c.deref_mut.ensures.value ∙ memory.blank in
+    let all = blank-length _ memory.blank in
+    let front = front-length lent blank in
     let used : r.answers ≤ 65536 = answers_within _ _ _ _ _ _ _ _ _ _ _ _ 65536 law.1 c.replay-done.auto.answers front in
-    subst (λ (s : _). Replays M (g.S.Server.table s) c.args.text.now (vec_items c.print_stop.new.printed) (vec_items c.truncate.new.self)) c.new-session.ensures.server
-    (assembled M (g.S.Server.table x.server) c.args.text.now _ _ ws c.replay-done.new.log _ _ r law.0
-    (front_blank d blank) (c.deref_mut-2.ensures.value ∙ c.args.memory.blank_log) law.1 law.2.lawful
-    (c.print_stop.ensures
-    ∙ ap (λ (us : List ℕ). us ++ stop_text r.stop) (front_kept ws (drop 65536 d) (drop (length (ws ++ drop 65536 d)) c.args.memory.printed.items) r.answers c.args.memory.printed.len (omega (arith, used, all, c.args.memory.printed.ok.0)) (omega (arith, used, front, c.replay-done.auto.answers))))
-    (cut_back _ _ c.replay-done.new.log r.log _ c.truncate.ensures.items (omega (arith, c.replay-done.auto.log, c.deref_mut-2.ensures.len))))
+    let answers = c.replay-done.new.answers in
+    let rest = drop 65536 lent in
+    let kept =
+    front_kept answers rest (drop (length (answers ++ rest)) memory.printed.items) r.answers memory.printed.len
+    (omega (arith, used, all, memory.printed.ok.0)) (omega (arith, used, front, c.replay-done.auto.answers)) in
+    subst (λ (s : _). Replays M (g.S.Server.table s) c.args.text.now (vec_items c.print_stop.new.printed) (vec_items c.truncate.new.self))
+    c.new-session.ensures.server
+    (assembled M (g.S.Server.table x.server) c.args.text.now _ _ answers c.replay-done.new.log _ _ r law.0 (front_blank lent blank)
+    (c.deref_mut-2.ensures.value ∙ memory.blank_log) law.1 law.2.lawful
+    (c.print_stop.ensures ∙ ap (λ (us : List ℕ). us ++ stop_text r.stop) kept)
+    (cut_back _ _ c.replay-done.new.log r.log _ c.truncate.ensures.items
+    (omega (arith, c.replay-done.auto.log, c.deref_mut-2.ensures.len))))
