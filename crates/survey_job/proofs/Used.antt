@@ -2,16 +2,14 @@
 use Rattle.std.proofs.Common.{◌≡◌, ℕ, ◌≤◌, List, length, drop, arith}
 use Rattle.std.proofs.lemmas.List.{length-append}
 use Rattle.field.specs.Model.{FieldModel}
-use Rattle.field.specs.Sums.{Vector}
-use Rattle.history.specs.Events.{Start, Event}
+use Rattle.law.specs.States.{State, Event}
 use Rattle.replay_text.specs.declared.outcome.Replay.{Replay}
 use Rattle.replay_text.specs.Replays.{Replayed, too_long, no_header, replayed}
 
 pub answers_within :
-    (M : FieldModel) (n : ℕ) (t : Vector) (s : Start) (h : List Event) (text answers log : List ℕ) (r : Replay) (h' : List Event)
-    (answers' log' : List ℕ) (room : ℕ) → Replayed M n t s h text answers log r h' answers' log' → length answers' ≡ length answers
-    → length answers ≡ room → r.answers ≤ room
-answers_within M n t s h text answers log _ _ _ _ room (too_long l) same is = omega arith
-answers_within M n t s h text answers log _ _ _ _ room (no_header l g) same is = omega arith
-answers_within M n t s h text answers log _ _ _ _ room (replayed l g k done rest h' out rows parts lines e stops all) same is =
+    (M : FieldModel) (σ : State) (text answers log : List ℕ) (r : Replay) (es : List Event) (τ : State) (answers' log' : List ℕ) (room : ℕ)
+    → Replayed M σ text answers log r es τ answers' log' → length answers' ≡ length answers → length answers ≡ room → r.answers ≤ room
+answers_within M σ text answers log _ _ _ _ _ room (too_long l) same is = omega arith
+answers_within M σ text answers log _ _ _ _ _ room (no_header l g) same is = omega arith
+answers_within M σ text answers log _ _ _ _ _ room (replayed l g k done rest es τ out parts lines e stops) same is =
     let whole = length-append out (drop (length out) answers) in omega arith

@@ -1,15 +1,15 @@
 -- The job of the program `replay`: a table file and a query text go in, what is printed and the log come out.
---   Replays M T text out log      a new session on the table T, and the replay of the text over it: `out` is printed, `log` logged
+--   Replays M T text out log      a new session on the table T, and the replay of the text over it: `out` is printed, `log` logged,
+--                                 and all that is promised of a run holds of the events of its calls
 --   Printed M table text out log  the same of a table file; a refused one prints its refusal, and logs nothing
 -- Assumes nothing.
-use Rattle.std.specs.Prelude.{ℕ, List, [], ◌++◌, length, take, Some, None}
+use Rattle.std.specs.Prelude.{List, [], ◌++◌, take, Some, None}
 use Rattle.refusal.specs.declared.Refusal.{Refusal}
 use Rattle.refusal.specs.Numbered.{number, detail}
 use Rattle.field.specs.Model.{FieldModel}
-use Rattle.server.specs.Tables.{value_at}
 use Rattle.table_file.specs.Files.{file_table, FileCheck}
-use Rattle.history.specs.Events.{Event, new_session}
-use Rattle.history.specs.Law.{Lawful}
+use Rattle.law.specs.States.{State, new_state, Event}
+use Rattle.law.specs.Promises.{NewlyAssured}
 use Rattle.answer_text.specs.AnswerLines.{refusal_line_lem}
 use Rattle.replay_text.specs.declared.outcome.Replay.{Replay}
 use Rattle.replay_text.specs.Replays.{Replayed}
@@ -17,9 +17,9 @@ use Rattle.survey_job.specs.Buffers.{zeros, stop_text}
 
 pub data Replays (M : FieldModel) (T text : List ℕ) : List ℕ → List ℕ → Type 0 where
   over_new_session :
-      (r : Replay) (h' : List Event) (answers log : List ℕ)
-      → Replayed M (length T) (value_at T) new_session [] text zeros zeros r h' answers log
-      → Lawful M (length T) (value_at T) new_session h'
+      (r : Replay) (es : List Event) (τ : State) (answers log : List ℕ)
+      → Replayed M (new_state T) text zeros zeros r es τ answers log
+      → NewlyAssured M T es τ
       → Replays M T text (take r.answers answers ++ stop_text r.stop) (take r.log log)
 
 pub data Printed (M : FieldModel) (table text : List ℕ) : List ℕ → List ℕ → Type 0 where

@@ -2,7 +2,6 @@
 ghost use Rattle.std.specs.Prelude.{◌≡◌, ◌≤◌, []};
 ghost use Rattle.refusal.specs.Numbered.{number, detail};
 ghost use Rattle.answer_text.specs.AnswerLines.{refusal_line_lem};
-ghost use Rattle.history.specs.Theorems.{JudgingIsExact, EveryValueStaysPossible, ValuesAreNotSeen};
 ghost use Rattle.survey_job.specs.Jobs.{Printed};
 
 use crate::memory::JobMemory;
@@ -33,13 +32,10 @@ fn refuse(memory: JobMemory, refusal: &Refusal) -> Job
 // Opens a table file, and replays a text over a new session on its table. A refused file gives the
 // line that says so.
 pub fn run_job<F: Field>(memory: JobMemory, table: &[u8], text: &[u8]) -> Job
-    ensures printed { Printed F.model table.now text.now result.printed.items result.log.items }
-    ensures exact { JudgingIsExact }
-    ensures possible { EveryValueStaysPossible }
-    ensures unseen { ValuesAreNotSeen }
+    ensures { Printed F.model table.now text.now result.printed.items result.log.items }
 {
     match TableFile::<F>::open(table) {
-        Ok(server) => replay_new(memory, server, text),
+        Ok(server) => replay_new(memory, &server, text),
         Err(refusal) => refuse(memory, &refusal),
     }
 }

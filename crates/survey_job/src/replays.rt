@@ -15,9 +15,9 @@ pub struct Job {
 }
 
 // Begins a session on the server, replays the text over it, and adds the line of a stop to the
-// answers. The session ends here, and the server with it: hence `Drop`.
-pub(crate) fn replay_new<S: Server + Drop>(memory: JobMemory, server: S, text: &[u8]) -> Job
-    ensures { Replays S.Over.Field.model (S.Server.table server) text.now result.printed.items result.log.items }
+// answers.
+pub(crate) fn replay_new<S: Server>(memory: JobMemory, server: &S, text: &[u8]) -> Job
+    ensures { Replays S.Over.Field.model (S.Server.table server.now) text.now result.printed.items result.log.items }
 {
     let JobMemory {
         room,

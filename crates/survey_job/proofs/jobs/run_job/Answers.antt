@@ -1,9 +1,6 @@
 -- Answers for `run_job`: by the file's check.
 use Rattle.std.proofs.Common.{List, ℕ, Some, sym, subst, arith, vec_items}
 use Rattle.refusal.specs.Numbered.{number, detail}
-use Rattle.history.proofs.Exact.{judging_is_exact_lem}
-use Rattle.history.proofs.Possible.{every_value_stays_possible_lem}
-use Rattle.history.proofs.Unseen.{values_are_not_seen_lem}
 use Rattle.answer_text.specs.AnswerLines.{refusal_line_lem}
 use Rattle.survey_job.specs.Jobs.{Printed, Replays, refused, replayed}
 use Rattle.survey_job.proofs.FileFaults.{small_detail}
@@ -20,13 +17,7 @@ returns-in-Ok g c =
     let file = c.in-Ok.ensures in
     let out = vec_items c.replay_new.result.printed in
     let log = vec_items c.replay_new.result.log in
-    record {
-      printed =
-          replayed file.0 out log (subst (λ (T : List ℕ). Replays M T c.args.text.now out log) file.1 c.replay_new.ensures);
-      exact = judging_is_exact_lem;
-      possible = every_value_stays_possible_lem;
-      unseen = values_are_not_seen_lem;
-    }
+    replayed file.0 out log (subst (λ (T : List ℕ). Replays M T c.args.text.now out log) file.1 c.replay_new.ensures)
 
 pub returns-in-Err : goal.returns-in-Err
 returns-in-Err g c =
@@ -34,11 +25,5 @@ returns-in-Err g c =
     let e = c.in-Err.refusal in
     let line = refusal_line_lem (number e) (detail e) in
     let told = c.refuse.ensures in
-    record {
-      printed =
-          subst (λ (out : List ℕ). Printed M c.args.table.now c.args.text.now out (vec_items c.refuse.result.log)) (sym told.printed)
-          (subst (λ (log : List ℕ). Printed M c.args.table.now c.args.text.now line log) (sym told.log) (refused e c.in-Err.ensures));
-      exact = judging_is_exact_lem;
-      possible = every_value_stays_possible_lem;
-      unseen = values_are_not_seen_lem;
-    }
+    subst (λ (out : List ℕ). Printed M c.args.table.now c.args.text.now out (vec_items c.refuse.result.log)) (sym told.printed)
+    (subst (λ (log : List ℕ). Printed M c.args.table.now c.args.text.now line log) (sym told.log) (refused e c.in-Err.ensures))
