@@ -5,7 +5,7 @@ use Rattle.std.specs.Prelude.{List, vec_items}
 use Rattle.field.specs.declared.Field.{Ghosts}
 use Rattle.echelon.specs.Reduced.{Pivoted}
 use Rattle.record.specs.declared.record.Record.{Record}
-use Rattle.record.specs.Shapes.{all_pivoted}
+use Rattle.record.specs.Rows.{all_pivoted}
 
 abbrev pub rec_of : {F : Type 0} {G : Ghosts F} → Record F G → List Pivoted
 rec_of r = all_pivoted (vec_items r.rows)
