@@ -4,16 +4,18 @@
 --   all_pivoted              record rows, one after another
 --   SameRow n g h            two rows with figures are equal at the n members
 --   SamePivoted n d e        two record rows are equal at the n members
+--   AllCleared M n e rec rec'   rec' are the rows rec, each cleared by e
+--   row_without M e r        the weights of r, once the pivot of e is cleared from it
 --   NoneNamed, FirstNamed    no member of n is named; p is the lowest that is
 --   NoOther, FirstOther      the same of the members other than q
 --   MadeFresh M n l x        x is l made 1 at its lowest named member, with the factor that made it so
 -- Assumes nothing.
-use Rattle.std.specs.Prelude.{◌≡◌, ℕ, ◌<◌, ◌≢◌, List, map}
+use Rattle.std.specs.Prelude.{◌≡◌, ℕ, ◌<◌, ◌≢◌, List, map, length}
 use Rattle.field.specs.Model.{FieldModel}
 use Rattle.field.specs.Sums.{Vector, weights_of}
 use Rattle.echelon.specs.Rows.{Figured, CodedRow}
-use Rattle.echelon.specs.Reduced.{Pivoted}
-use Rattle.echelon.specs.Elimination.{scaled}
+use Rattle.echelon.specs.Reduced.{Pivoted, at}
+use Rattle.echelon.specs.Elimination.{cleared, scaled, pivot_cleared}
 use Rattle.record.specs.declared.rows.FiguredRow.{FiguredRow}
 use Rattle.record.specs.declared.rows.RecordRow.{RecordRow}
 use Rattle.record.specs.declared.rows.FreshRow.{FreshRow}
@@ -38,6 +40,12 @@ pub record SamePivoted (n : ℕ) (d e : Pivoted) : Type 0 where
   pub pivots : d.pivot ≡ e.pivot
   pub weights : (m : ℕ) → m < n → d.weights m ≡ e.weights m
   pub figures : d.figure ≡ e.figure
+
+abbrev pub AllCleared : FieldModel → ℕ → Pivoted → List Pivoted → List Pivoted → Type 0
+AllCleared M n e rec rec' = (a : ℕ) → a < length rec → SamePivoted n (at rec' a) (pivot_cleared M e (at rec a))
+
+abbrev pub row_without : FieldModel → RecordRow → RecordRow → Vector
+row_without M e r = (cleared M (pivoted e) (figured_record_row r)).row
 
 abbrev pub NoneNamed : ℕ → Vector → Type 0
 NoneNamed n w = (m : ℕ) → m < n → w m ≡ 0

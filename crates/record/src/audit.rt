@@ -95,7 +95,7 @@ impl<F: Field> Audit<F> {
             return Err(Refusal::NotAnElement(Site::Nothing));
         }
         let fresh = held.fresh;
-        self.pending = None;
+        self.close();
         let Some(fresh) = fresh else {
             return Ok(Admission::Kept);
         };

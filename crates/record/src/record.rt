@@ -1,10 +1,10 @@
 // The record itself, and what it is asked. What holds of every record stands in its type.
-ghost use Rattle.std.specs.Prelude.{◌≡◌, ℕ, ◌<◌, ◌≤◌, [], length, vec_len, vec_capacity, Some, None, MatchOption, MatchResult, OnOk, OnErr};
+ghost use Rattle.std.specs.Prelude.{◌≡◌, ℕ, ◌<◌, ◌≤◌, [], length, vec_len, vec_capacity, Some, None, MatchOption, OnOk, OnErr, IfErr};
 ghost use Rattle.field.specs.Sums.{Vector, Codes, weights_of};
 ghost use Rattle.echelon.specs.Rows.{CodedRow, Fits};
 ghost use Rattle.echelon.specs.Reduced.{at, figured, all_figured, Reduced, Same, NoneAlone};
-ghost use Rattle.echelon.specs.Elimination.{leftover, pivot_cleared, joined, AloneWith};
-ghost use Rattle.record.specs.Rows.{figured_row, pivoted, figured_record_row, all_pivoted, SameRow, SamePivoted};
+ghost use Rattle.echelon.specs.Elimination.{leftover, joined};
+ghost use Rattle.record.specs.Rows.{figured_row, pivoted, figured_record_row, all_pivoted, SameRow, AllCleared};
 
 use crate::judge::{Admission, Judgement, Standing};
 use crate::room::Room;
@@ -36,7 +36,7 @@ fn clear_rows<F: Field>(rows: &mut Vec<RecordRow>, by: &RecordRow, n: usize)
     requires coded { (a : ℕ) → a < vec_len rows.old → CodedRow F.model n (figured (at (all_pivoted rows.old.items) a)) }
     ensures len { vec_len rows.new ≡ vec_len rows.old }
     ensures cap { vec_capacity rows.new ≡ vec_capacity rows.old }
-    ensures is { (a : ℕ) → a < vec_len rows.old → SamePivoted n (at (all_pivoted rows.new.items) a) (pivot_cleared F.model (pivoted by.now) (at (all_pivoted rows.old.items) a)) }
+    ensures is { AllCleared F.model n (pivoted by.now) (all_pivoted rows.old.items) (all_pivoted rows.new.items) }
 {
     for row in rows.iter_mut() {
         row.row.clear::<F>(by, n);
@@ -46,12 +46,12 @@ fn clear_rows<F: Field>(rows: &mut Vec<RecordRow>, by: &RecordRow, n: usize)
 impl<F: Field> Record<F> {
     ghost use Rattle.server.specs.Checks.{Lowest};
     ghost use Rattle.server.specs.Tables.{bounded};
-    ghost use Rattle.echelon.specs.Witness.{Free, base, direction, Leads, Witness};
+    ghost use Rattle.echelon.specs.Witness.{Free, Leads, Witness};
     ghost use Rattle.checks.specs.Checks.{WitnessCheck};
     ghost use Rattle.checks.specs.CheckedRows.{row_of};
-    ghost use Rattle.record.specs.Records.{rec_of};
+    ghost use Rattle.record.specs.Records.{rec_of, AloneBeside, MayTake, Along};
     ghost use Rattle.record.specs.Judged.{row_with, Judged, Adds, FitsBoth, Admitted};
-    ghost use Rattle.record.specs.Standings.{unfigured, MayJoin, Stands};
+    ghost use Rattle.record.specs.Standings.{unfigured, Stands};
 
     // An empty record for a count of members, which every server has between 1 and 64.
     pub fn new(room: Room, count: usize) -> Record<F>
@@ -117,7 +117,7 @@ impl<F: Field> Record<F> {
         requires lowest { (m : ℕ) → m < fresh.now.pivot.0 → weights_of fresh.now.row.weights m ≡ 0 }
         requires own { weights_of fresh.now.row.weights fresh.now.pivot.0 ≡ 1 }
         requires others { (a : ℕ) → a < length (rec_of self.now) → weights_of fresh.now.row.weights (at (rec_of self.now) a).pivot ≡ 0 }
-        ensures { MatchOption result ((i : ℕ) → AloneWith F.model self.now.count (rec_of self.now) (pivoted fresh.now) i → ⊥) (λ i. Lowest (AloneWith F.model self.now.count (rec_of self.now) (pivoted fresh.now)) i.0) }
+        ensures { MatchOption result ((i : ℕ) → AloneBeside self.now (pivoted fresh.now) i → ⊥) (λ i. Lowest (AloneBeside self.now (pivoted fresh.now)) i.0) }
     {
         for row in self.rows.as_slice() {
             let other = row.lowest_other_without::<F>(fresh, self.count);
@@ -184,10 +184,10 @@ impl<F: Field> Record<F> {
     // Takes in a row that may join, with its figure. The clause holds of every row that `fresh` was worked out of.
     pub(crate) fn take(&mut self, fresh: &FreshRow, figure: Element)
         requires figure { figure.0 < F.model.size }
-        requires joins { (r : Vector) × Codes F.model self.old.count r × MayJoin F.model self.old.count (rec_of self.old) r fresh.now }
+        requires joins { (w : Vector) × MayTake self.old w fresh.now }
         ensures count { self.new.count ≡ self.old.count }
-        ensures fits { (r : Vector) → Codes F.model self.old.count r → MayJoin F.model self.old.count (rec_of self.old) r fresh.now → FitsBoth F.model self.old.count (rec_of self.old) (row_with r figure.0) (rec_of self.new) }
-        ensures adds { (r : Vector) → Codes F.model self.old.count r → MayJoin F.model self.old.count (rec_of self.old) r fresh.now → Adds F.model self.old.count (rec_of self.old) (row_with r figure.0) (rec_of self.new) }
+        ensures fits { (w : Vector) → MayTake self.old w fresh.now → FitsBoth F.model self.old.count (rec_of self.old) (row_with w figure.0) (rec_of self.new) }
+        ensures adds { (w : Vector) → MayTake self.old w fresh.now → Adds F.model self.old.count (rec_of self.old) (row_with w figure.0) (rec_of self.new) }
     {
         let row = fresh.figured::<F>(figure);
         let k = self.place_of(row.pivot);
@@ -241,7 +241,7 @@ impl<F: Field> Record<F> {
         requires below { free.0 < self.now.count }
         requires free { Free (rec_of self.now) free.0 }
         requires factor { factor.0 < F.model.size }
-        ensures { (m : ℕ) → m < self.now.count → weights_of out.new m ≡ F.model.plus (base (rec_of self.now) m) (F.model.times factor.0 (direction F.model (rec_of self.now) free.0 m)) }
+        ensures { Along F.model self.now.count (rec_of self.now) free.0 factor.0 (weights_of out.new) }
     {
         out.fill(Element(0));
         out[free.0] = factor;
@@ -258,7 +258,8 @@ impl<F: Field> Record<F> {
         element: Element,
         out: &mut [Element],
     ) -> Result<(), Refusal>
-        ensures checked { MatchResult result (λ _. WitnessCheck F.model self.now.count member.0 element.0 (length out.old) None) (λ e. WitnessCheck F.model self.now.count member.0 element.0 (length out.old) (Some e)) }
+        ensures passed { OnOk result (WitnessCheck F.model self.now.count member.0 element.0 (length out.old) None) }
+        ensures refused { IfErr result (λ e. WitnessCheck F.model self.now.count member.0 element.0 (length out.old) (Some e)) }
         ensures witness { OnOk result (Witness F.model self.now.count (rec_of self.now) member.0 element.0 (weights_of out.new)) }
         ensures element { OnOk result (weights_of out.new member.0 ≡ element.0) }
         ensures codes { OnOk result (Codes F.model self.now.count (weights_of out.new)) }

@@ -121,8 +121,7 @@ impl FiguredRow {
 
 impl RecordRow {
     ghost use Rattle.echelon.specs.Rows.{CodedRow};
-    ghost use Rattle.echelon.specs.Elimination.{cleared};
-    ghost use Rattle.record.specs.Rows.{pivoted, figured_record_row, NoOther, FirstOther};
+    ghost use Rattle.record.specs.Rows.{figured_record_row, row_without, NoOther, FirstOther};
 
     // The lowest member named beside its pivot, once the pivot of `by` is cleared from it. A row that is changed has its
     // pivot below that of `by`, and both are 0 below their pivots.
@@ -133,7 +132,7 @@ impl RecordRow {
         requires by_coded { CodedRow F.model n (figured_record_row by.now) }
         requires lowest { (m : ℕ) → m < self.now.pivot.0 → weights_of self.now.row.weights m ≡ 0 }
         requires by_lowest { (m : ℕ) → m < by.now.pivot.0 → weights_of by.now.row.weights m ≡ 0 }
-        ensures { MatchOption result (NoOther n (cleared F.model (pivoted by.now) (figured_record_row self.now)).row self.now.pivot.0) (λ p. FirstOther n (cleared F.model (pivoted by.now) (figured_record_row self.now)).row self.now.pivot.0 p.0) }
+        ensures { MatchOption result (NoOther n (row_without F.model by.now self.now) self.now.pivot.0) (λ p. FirstOther n (row_without F.model by.now self.now) self.now.pivot.0 p.0) }
     {
         let factor = self.row.weights[by.pivot.0];
         if factor.0 == 0 {

@@ -17,7 +17,7 @@ take-requires g c =
     let codes = row-elements r c.args.row.now in
     record {
       figure = omega arith;
-      joins = (row_of c.args.row.now, codes, stands-fresh g.F.Field.model g.met.F.Field.laws r.count (rec_of r) r.reduced _ codes c.in-Fresh.fresh c.in-Fresh.ensures);
+      joins = (row_of c.args.row.now, (codes, stands-fresh g.F.Field.model g.met.F.Field.laws r.count (rec_of r) r.reduced _ codes c.in-Fresh.fresh c.in-Fresh.ensures));
     }
 
 pub returns-in-Fixed : goal.returns-in-Fixed
@@ -56,6 +56,6 @@ returns-in-Fresh g c =
     record {
       admitted =
           joined (omega arith) (judged-free M L r.count (rec_of r) r.reduced w codes c.in-Fresh.fresh c.in-Fresh.ensures)
-          (c.take.ensures.fits w codes may) (c.take.ensures.adds w codes may);
+          (c.take.ensures.fits w (codes, may)) (c.take.ensures.adds w (codes, may));
       count = c.take.ensures.count;
     }

@@ -53,7 +53,7 @@ rows_after g c =
     subst (λ (l : List RecordRow). Same r.count (joined M (pivoted c.args.fresh) c.args.k.0 (rec_of r)) (all_pivoted l)) (sym items)
     (same-joined M r.count c.args.fresh (vec_items r.rows) rows₁
     (omega (arith, c.clear_rows.ensures.len, c.clear_rows.new.rows.ok.0, r.rows.ok.0))
-    (λ a h. c.clear_rows.ensures.is a (omega (arith, r.rows.ok.0))) c.args.k.0 c.requires.place)
+    c.clear_rows.ensures.is c.args.k.0 c.requires.place)
 
 pub invariant_of-self : goal.invariant_of-self
 invariant_of-self g c =

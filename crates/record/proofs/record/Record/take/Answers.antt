@@ -11,7 +11,7 @@ join-requires g c =
     let M = g.F.Field.model in
     let L = g.met.F.Field.laws in
     let s = c.args.self.now in
-    let (r, codes, may) = c.requires.joins in
+    let (r, (codes, may)) = c.requires.joins in
     let coded : CodedRow M s.count (row_with r c.args.figure.0) = (codes, c.requires.figure) in
     let x = c.figured-row.result in
     let made = c.figured-row.ensures in
@@ -44,10 +44,10 @@ returns g c =
     in
     record {
       count = c.join.ensures.count;
-      fits = λ r codes may.
+      fits = λ r (codes, may).
           after_fits M L s.count (rec_of s) s.reduced (row_with r c.args.figure.0) (codes, c.requires.figure) x
           (facts r codes may) _ k.within k.below k.above _ same;
-      adds = λ r codes may.
+      adds = λ r (codes, may).
           after_adds M L s.count (rec_of s) s.reduced (row_with r c.args.figure.0) (codes, c.requires.figure) x
           (facts r codes may) _ k.within k.below k.above _ same;
     }
