@@ -1,5 +1,5 @@
 // A row that passed its checks is a type, so that no check is made twice.
-ghost use Rattle.std.specs.Prelude.{◌≡◌, ℕ, ◌<◌, ◌≤◌, Some, None, MatchResult};
+ghost use Rattle.std.specs.Prelude.{◌≡◌, ℕ, ◌<◌, ◌≤◌, length, Some, None, MatchResult};
 ghost use Rattle.field.specs.Sums.{Codes, weights_of};
 ghost use Rattle.server.specs.Checks.{Count};
 ghost use Rattle.checks.specs.Checks.{RowCheck};
@@ -82,7 +82,8 @@ impl<F: Field> CheckedRow<F> {
 
     // The weights of its members.
     pub fn weights(&self) -> &[Element]
-        ensures { result.now ≡ listed_row self.now }
+        ensures list { result.now ≡ listed_row self.now }
+        ensures length { length result.now ≡ self.now.count }
     {
         &self.weights[..self.count]
     }
