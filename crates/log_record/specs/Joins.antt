@@ -6,6 +6,8 @@
 --   RowsJoin M n k before bs r given   r is the answer for the rows bs from number k on, after the rows before
 --   LogRecord M n bs r given    r is the answer for a log, where n is the server's count
 --   Recorded M n given rec      the record is the reduced form of the rows given, which pin nobody, and every table that fits it has each figure given
+--   JoinsAfter M n k rec g rec'   after whatever rows rec is recorded for, the row of g joins, and rec' is recorded for them with g
+--   RefusedAfter M n k rec g e    after whatever rows rec is recorded for, the row of g is refused by e
 -- Of a log, `given` are all rows with their figures, and none where it is refused.
 -- Lists of rows have the newest first. Assumes nothing.
 use Rattle.std.specs.Prelude.{◌≡◌, ℕ, ◌+◌, ◌<◌, ◌≤◌, List, [], ◌∷◌, ◌++◌, length, drop, Some, None, Option, ◌≢◌}
@@ -71,3 +73,10 @@ pub record Recorded (M : FieldModel) (n : ℕ) (given : List Figured) (rec : Lis
   pub pins_nobody : (i : ℕ) → i < n → Pins M n (rows_of given) i → ⊥
   pub form : ReducedForm M n given rec
   pub figures : (t : Vector) → Codes M n t → Fits M n (all_figured rec) t → Fits M n given t
+
+abbrev pub JoinsAfter : FieldModel → ℕ → LogRow → List Pivoted → Figured → List Pivoted → Type 0
+JoinsAfter M n k rec g rec' =
+    (before : List Figured) → Recorded M n before rec → JoinCheck M n k before g None × Recorded M n (g ∷ before) rec'
+
+abbrev pub RefusedAfter : FieldModel → ℕ → LogRow → List Pivoted → Figured → Refusal → Type 0
+RefusedAfter M n k rec g e = (before : List Figured) → Recorded M n before rec → JoinCheck M n k before g (Some e)
