@@ -7,4 +7,5 @@ pub mod Back
 pub mod Writers
 pub mod Readers
 pub mod Logs
+pub mod Passing
 pub mod Steps

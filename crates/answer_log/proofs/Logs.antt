@@ -38,6 +38,14 @@ excluded M n k bs _ (accepted fine below) (no_figure weighed past) = omega arith
 pub row_count : (M : FieldModel) (n : ℕ) (k : LogRow) (bs : List ℕ) → EntryCheck M n k bs None → n ≤ 64
 row_count M n k bs (accepted fine below) = fine.framed.named.mapped.count.1
 
+-- the figure of a row that was read is an element
+pub read_figure :
+    (M : FieldModel) (n : ℕ) (k : LogRow) (bs : List ℕ) (w : Vector) (f size : ℕ) → Reads M n k bs w f size → f < M.size
+read_figure M n k bs w f size r = go r.check
+  where
+    go : EntryCheck M n k bs None → f < M.size
+    go (accepted fine below) = rw r.figure below
+
 -- every weight of a row without faults is an element
 pub weight-below :
     (M : FieldModel) (n : ℕ) (bs : List ℕ) → FieldLaws M → ((m : ℕ) → Faulty M n bs m → ⊥) → (m : ℕ) → m < n
@@ -120,10 +128,7 @@ module _ (M : FieldModel) (L : FieldLaws M) (n : ℕ) (k : LogRow) (bytes : List
       ap length cut_same ∙ length-take-le (next - at) (drop at bytes) (omega arith)
 
   pub cut_figure : f < M.size
-  cut_figure = go row.reads.check
-    where
-      go : EntryCheck M n k (drop at bytes) None → f < M.size
-      go (accepted fine below) = rw row.reads.figure below
+  cut_figure = read_figure M n k (drop at bytes) (weights_of ws) f (next - at) row.reads
 
   pub cut_codes : Codes M (length (take n ws)) (weights_of (take n ws))
   cut_codes m h = let inside : m < n = rw cut_length at h in rw (cut_weight m inside, row.reads.weights m inside) (go row.reads.check inside)

@@ -6,7 +6,8 @@ use Rattle.std.specs.Prelude.{◌≡◌, ◌+◌, ◌<◌, ◌≤◌, length, dr
 use Rattle.refusal.specs.declared.Refusal.{Refusal}
 use Rattle.refusal.specs.declared.LogRow.{LogRow}
 use Rattle.field.specs.Model.{FieldModel}
-use Rattle.field.specs.Sums.{weights_of}
+use Rattle.field.specs.declared.Field.{Ghosts}
+use Rattle.checks.specs.CheckedRows.{row_of}
 use Rattle.answer_log.specs.declared.reading.LogEntry.{LogEntry}
 use Rattle.answer_log.specs.declared.rows.LogRows.{LogRows}
 use Rattle.answer_log.specs.Entries.{EntryCheck, RowAt}
@@ -14,14 +15,15 @@ use Rattle.answer_log.specs.Entries.{EntryCheck, RowAt}
 abbrev pub number : {V : Type 0} → LogRows V → LogRow
 number s = record { 0 = s.row }
 
-pub record Step {V : Type 0} (M : FieldModel) (s : LogRows V) (x : Result LogEntry Refusal) (t : LogRows V) : Type 0 where
+pub record Step {V F : Type 0} {G : Ghosts F} (M : FieldModel) (s : LogRows V) (x : Result (LogEntry F G) Refusal) (t : LogRows V) : Type 0 where
   pub left : s.at < length s.bytes.now
   pub bytes : t.bytes.now ≡ s.bytes.now
   pub count : t.n ≡ s.n
   pub row : t.row ≡ s.row + 1
   pub read :
-      MatchResult x (λ e. RowAt M s.n (number s) s.bytes.now s.at (weights_of e.weights) e.figure.0 e.next × (t.at ≡ e.next))
+      MatchResult x
+      (λ e. RowAt M s.n (number s) s.bytes.now s.at (row_of e.row) e.figure.0 e.next × (e.row.count ≡ s.n) × (t.at ≡ e.next))
       (λ e. EntryCheck M s.n (number s) (drop s.at s.bytes.now) (Some e) × (t.at ≡ length s.bytes.now))
 
-abbrev pub Next : {V : Type 0} → FieldModel → LogRows V → Option (Result LogEntry Refusal) → LogRows V → Type 0
+abbrev pub Next : {V F : Type 0} {G : Ghosts F} → FieldModel → LogRows V → Option (Result (LogEntry F G) Refusal) → LogRows V → Type 0
 Next M s r t = MatchOption r (length s.bytes.now ≤ s.at) (λ x. Step M s x t)

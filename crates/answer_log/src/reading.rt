@@ -1,22 +1,23 @@
 // Reading a log: the checks of its header, and of a row at a place.
-ghost use Rattle.std.specs.Prelude.{◌≡◌, ℕ, ◌<◌, ◌≤◌, true, length, drop, Some, None, MatchResult};
+ghost use Rattle.std.specs.Prelude.{◌≡◌, ℕ, ◌<◌, ◌≤◌, true, length, drop, Some, None, OnOk, IfOk, IfErr, MatchResult};
 ghost use Rattle.field.specs.Sums.{weights_of};
 ghost use Rattle.server.specs.Checks.{Count};
+ghost use Rattle.checks.specs.CheckedRows.{row_of};
 ghost use Rattle.member_map.specs.Maps.{named, named_below};
 ghost use Rattle.answer_log.specs.Entries.{mark_of, map_of, figure_place, row_weight, Named, Framed, Faulty, Weighed, EntryCheck, Reads, RowAt, HeaderCheck};
 
 use crate::parts::is_plain;
+use checks::CheckedRow;
 use field::{Element, Field, decode, element_width};
 use member_map::{is_named, map_length, named_count, stray_bit};
 use refusal::{LogRow, Member, Refusal, Site};
 use server::is_count;
 use stored::{check_value, header_count};
 
-// A row as it was read: its weights, 0 from the count on, its figure, and where the next row begins.
-// 64 places and no Vec: the library crates have fixed memory.
-#[derive(Clone, Copy)]
-pub struct LogEntry {
-    pub weights: [Element; 64],
+// A row as it was read, which passed its checks, its figure, and where the next row begins.
+#[derive(Drop)]
+pub struct LogEntry<F: Field> {
+    pub row: CheckedRow<F>,
     pub figure: Element,
     pub next: usize,
 }
@@ -116,34 +117,36 @@ impl RowBytes<'_> {
         Ok(weights)
     }
 
-    // The weights of the row, stored only where one is not 1.
-    fn weigh<F: Field>(&self) -> Result<[Element; 64], Refusal>
+    // The row itself, whose weights are stored only where one is not 1.
+    fn weigh<F: Field>(&self) -> Result<CheckedRow<F>, Refusal>
         requires { Framed F.model self.now.count self.now.bytes.now }
-        ensures { MatchResult result (λ ws. Weighed F.model self.now.count self.now.bytes.now × ((m : ℕ) → m < self.now.count → weights_of ws m ≡ row_weight F.model self.now.count self.now.bytes.now m) × ((m : ℕ) → self.now.count ≤ m → weights_of ws m ≡ 0)) (λ e. EntryCheck F.model self.now.count self.now.row self.now.bytes.now (Some e)) }
+        ensures weighed { OnOk result (Weighed F.model self.now.count self.now.bytes.now) }
+        ensures row { IfOk result (λ w. (m : ℕ) → m < self.now.count → row_of w m ≡ row_weight F.model self.now.count self.now.bytes.now m) }
+        ensures count { IfOk result (λ w. w.count ≡ self.now.count) }
+        ensures refused { IfErr result (λ e. EntryCheck F.model self.now.count self.now.row self.now.bytes.now (Some e)) }
     {
         let weights = self.read_weights::<F>()?;
         if self.mark() == 1 && is_plain(&weights) {
             return Err(Refusal::NeedlessWeights(self.row));
         }
-        Ok(weights)
+        let count = usize::from(self.count);
+        Ok(CheckedRow::new(&weights[..count], count).unwrap())
     }
 
     // The row that the bytes begin with, where `next` is how many bytes it has.
-    fn read<F: Field>(&self) -> Result<LogEntry, Refusal>
-        ensures { MatchResult result (λ e. Reads F.model self.now.count self.now.row self.now.bytes.now (weights_of e.weights) e.figure.0 e.next) (λ e. EntryCheck F.model self.now.count self.now.row self.now.bytes.now (Some e)) }
+    fn read<F: Field>(&self) -> Result<LogEntry<F>, Refusal>
+        ensures row { IfOk result (λ e. Reads F.model self.now.count self.now.row self.now.bytes.now (row_of e.row) e.figure.0 e.next) }
+        ensures count { IfOk result (λ e. e.row.count ≡ self.now.count) }
+        ensures refused { IfErr result (λ e. EntryCheck F.model self.now.count self.now.row self.now.bytes.now (Some e)) }
     {
         let place = self.find_figure::<F>()?;
-        let weights = self.weigh::<F>()?;
+        let row = self.weigh::<F>()?;
         let figure = decode::<F>(self.bytes, place);
         if figure.0 >= F::size() {
             return Err(Refusal::NotAnElement(Site::OfRow(self.row)));
         }
         let next = place + element_width::<F>();
-        Ok(LogEntry {
-            weights,
-            figure,
-            next,
-        })
+        Ok(LogEntry { row, figure, next })
     }
 }
 
@@ -153,8 +156,10 @@ pub fn read_row<F: Field>(
     at: usize,
     n: usize,
     row: LogRow,
-) -> Result<LogEntry, Refusal>
-    ensures { MatchResult result (λ e. RowAt F.model n row bytes.now at (weights_of e.weights) e.figure.0 e.next) (λ e. EntryCheck F.model n row (drop at bytes.now) (Some e)) }
+) -> Result<LogEntry<F>, Refusal>
+    ensures row { IfOk result (λ e. RowAt F.model n row bytes.now at (row_of e.row) e.figure.0 e.next) }
+    ensures count { IfOk result (λ e. e.row.count ≡ n) }
+    ensures refused { IfErr result (λ e. EntryCheck F.model n row (drop at bytes.now) (Some e)) }
 {
     if !is_count(n) {
         return Err(Refusal::WrongCount);

@@ -36,7 +36,7 @@ fn rewrite_rows<F: Field>(bytes: &[u8], n: usize, out: &mut [u8])
             return;
         };
         let row = Row::<F> {
-            weights: &entry.weights[..n],
+            weights: entry.row.weights(),
             figure: entry.figure,
             field: PhantomData,
         };

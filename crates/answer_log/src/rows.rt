@@ -38,13 +38,13 @@ impl<'a, F: Field> LogRows<'a, F> {
 impl<'a, F: Field> Iterator for LogRows<'a, F> {
     ghost use Rattle.answer_log.specs.Steps.{Next};
 
-    type Item = Result<LogEntry, Refusal>;
+    type Item = Result<LogEntry<F>, Refusal>;
 
     ghost next_gives = { Next F.model };
 
     ghost remaining = { λ s. at_most (length s.bytes.now - s.at) };
 
-    fn next(&mut self) -> Option<Result<LogEntry, Refusal>> {
+    fn next(&mut self) -> Option<Result<LogEntry<F>, Refusal>> {
         if self.at >= self.bytes.len() {
             return None;
         }

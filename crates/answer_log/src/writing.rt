@@ -1,7 +1,7 @@
 // Writing a log: the header, and row after row. The caller lends the rest of the log's buffer.
-ghost use Rattle.std.specs.Prelude.{◌≡◌, length, Some, None, MatchResult};
+ghost use Rattle.std.specs.Prelude.{◌≡◌, length, Some, None, OnOk, IfOk, OnErr, IfErr, MatchResult};
 ghost use Rattle.refusal.specs.declared.LogRow.{LogRow};
-ghost use Rattle.field.specs.Sums.{weights_of};
+ghost use Rattle.checks.specs.CheckedRows.{row_of};
 ghost use Rattle.buffer.specs.Buffers.{Put};
 ghost use Rattle.answer_log.specs.Rows.{header_bytes, row_bytes};
 ghost use Rattle.answer_log.specs.Entries.{Reads};
@@ -9,8 +9,8 @@ ghost use Rattle.answer_log.specs.Writes.{HeaderWrite, RowWrite};
 
 use crate::parts::Row;
 use buffer::put_bytes;
+use checks::CheckedRow;
 use field::{Element, Field};
-use checks::check_row;
 use refusal::{Refusal, Site};
 use server::is_count;
 use std::marker::PhantomData;
@@ -25,24 +25,23 @@ pub fn write_header<F: Field>(n: usize, out: &mut [u8]) -> Result<usize, Refusal
     put_bytes(&[F::kind(), n as u8], out).ok_or(Refusal::LogFull)
 }
 
-// Writes a row of `n` weights with its figure, and answers how many bytes it has. Read back, it is the same row.
+// Writes a row with its figure, and answers how many bytes it has. Read back, it is the same row.
 pub fn write_row<F: Field>(
-    n: usize,
-    weights: &[Element],
+    row: &CheckedRow<F>,
     figure: Element,
     out: &mut [u8],
 ) -> Result<usize, Refusal>
-    ensures { MatchResult result (λ k. RowWrite F.model n weights.now figure.0 (length out.old) None × Put (row_bytes F.model n (weights_of weights.now) figure.0) out.old out.new k × ((row : LogRow) → Reads F.model n row out.new (weights_of weights.now) figure.0 k)) (λ e. RowWrite F.model n weights.now figure.0 (length out.old) (Some e) × (out.new ≡ out.old)) }
+    ensures written { OnOk result (RowWrite F.model row.now.count (row_of row.now) figure.0 (length out.old) None) }
+    ensures bytes { IfOk result (λ k. Put (row_bytes F.model row.now.count (row_of row.now) figure.0) out.old out.new k) }
+    ensures reads { IfOk result (λ k. (number : LogRow) → Reads F.model row.now.count number out.new (row_of row.now) figure.0 k) }
+    ensures refused { IfErr result (λ e. RowWrite F.model row.now.count (row_of row.now) figure.0 (length out.old) (Some e)) }
+    ensures kept { OnErr result (out.new ≡ out.old) }
 {
-    if !is_count(n) {
-        return Err(Refusal::WrongCount);
-    }
-    check_row::<F>(weights, n)?;
     if figure.0 >= F::size() {
         return Err(Refusal::NotAnElement(Site::Nothing));
     }
     let row = Row::<F> {
-        weights,
+        weights: row.weights(),
         figure,
         field: PhantomData,
     };

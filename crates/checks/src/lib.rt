@@ -2,7 +2,6 @@
 #![tactic(auto)]
 
 mod padding;
-mod rows;
+mod row;
 
-pub use padding::padded;
-pub use rows::check_row;
+pub use row::CheckedRow;

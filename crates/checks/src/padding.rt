@@ -5,7 +5,7 @@ ghost use Rattle.field.specs.Sums.{weights_of};
 use field::Element;
 
 // The first 64 weights, and 0 in the places past them.
-pub fn padded(weights: &[Element]) -> [Element; 64]
+pub(crate) fn padded(weights: &[Element]) -> [Element; 64]
     ensures front { length weights.now ≤ 64 → take (length weights.now) result ≡ weights.now }
     ensures each { (m : ℕ) → m < 64 → weights_of result m ≡ weights_of weights.now m }
     ensures rest { (m : ℕ) → length weights.now ≤ m → weights_of result m ≡ 0 }

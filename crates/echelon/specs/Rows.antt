@@ -1,5 +1,6 @@
 -- Rows with figures, and what they tell of tables, over every field and every count n of members.
 --   Figured             a row with the figure given for it
+--   row_with r f        the row r with the figure f
 --   given_row ws f      the row of these weights with the figure f
 --   rows_of given       the rows alone, without their figures
 --   RowsCodes M n rows  each row's weights are elements
@@ -21,9 +22,11 @@ pub record Figured : Type 0 where
   pub row : Vector
   pub figure : ℕ
 
--- the row of these weights with a figure
+abbrev pub row_with : Vector → ℕ → Figured
+row_with r f = record { row = r; figure = f }
+
 abbrev pub given_row : List Element → ℕ → Figured
-given_row ws f = record { row = weights_of ws; figure = f }
+given_row ws f = row_with (weights_of ws) f
 
 abbrev pub rows_of : List Figured → List Vector
 rows_of given = map (λ g. g.row) given

@@ -2,12 +2,12 @@
 use Rattle.std.proofs.Common.{◌≡◌, ℕ, ◌+◌, List, [], ◌∷◌, drop, Some, None, Ok, Err, Option, Result, sym, refl, subst, arith, MatchResult}
 use Rattle.refusal.specs.declared.Refusal.{Refusal}
 use Rattle.field.specs.Model.{FieldModel}
-use Rattle.echelon.specs.Rows.{Figured}
+use Rattle.echelon.specs.Rows.{Figured, row_with}
 use Rattle.buffer.specs.Buffers.{Put}
 use Rattle.answer_log.specs.Logs as logs
 use Rattle.answer_log.specs.Logs.{RowsCheck, LogCheck, RewriteCheck}
 use Rattle.answer_log.proofs.Logs.{excluded}
-use Rattle.log_record.specs.Joins.{RowsJoin, no_more, bad_row, kept_out, next_row, row_with, LogRecord, bad_header, rows}
+use Rattle.log_record.specs.Joins.{RowsJoin, no_more, bad_row, kept_out, next_row, LogRecord, bad_header, rows}
 use Rattle.log_record.specs.Rewrites.{Rewrites, no_room, rewritten}
 use Rattle.log_record.proofs.Entries.{header-one}
 use Rattle.log_record.proofs.Once.{some_none}

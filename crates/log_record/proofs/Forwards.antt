@@ -5,10 +5,10 @@ use Rattle.refusal.specs.declared.Refusal.{Refusal}
 use Rattle.field.specs.Model.{FieldModel}
 use Rattle.field.specs.Sums.{Vector}
 use Rattle.server.specs.Tables.{bounded}
-use Rattle.echelon.specs.Rows.{Figured}
+use Rattle.echelon.specs.Rows.{Figured, row_with}
 use Rattle.echelon.specs.Reduced.{Pivoted, ReducedForm}
 use Rattle.answer_log.specs.Entries.{EntryCheck, Reads, HeaderCheck, accepted}
-use Rattle.log_record.specs.Joins.{JoinCheck, row_with, RowsJoin, no_more, bad_row, kept_out, next_row, LogRecord, rows, Recorded}
+use Rattle.log_record.specs.Joins.{JoinCheck, RowsJoin, no_more, bad_row, kept_out, next_row, LogRecord, rows, Recorded}
 
 module _ (M : FieldModel) (n k : ℕ) (before : List Figured) (bytes : List ℕ) (at : ℕ) where
   pub rows_done : length bytes ≤ at → RowsJoin M n k before (drop at bytes) None before

@@ -6,10 +6,10 @@ use Rattle.refusal.specs.declared.Refusal.{Refusal}
 use Rattle.refusal.specs.declared.LogRow.{LogRow}
 use Rattle.field.specs.Model.{FieldModel, FieldLaws}
 use Rattle.field.specs.Sums.{Vector}
-use Rattle.echelon.specs.Rows.{Figured}
+use Rattle.echelon.specs.Rows.{Figured, row_with}
 use Rattle.answer_log.specs.Entries.{Reads}
 use Rattle.answer_log.proofs.Logs.{excluded}
-use Rattle.log_record.specs.Joins.{JoinCheck, discloses, other_figure, joins, row_with, RowsJoin, no_more, bad_row, kept_out, next_row, bad_header, rows}
+use Rattle.log_record.specs.Joins.{JoinCheck, discloses, other_figure, joins, RowsJoin, no_more, bad_row, kept_out, next_row, bad_header, rows}
 use Rattle.log_record.specs.Theorems.{OneAnswer}
 use Rattle.log_record.proofs.Entries.{header-one, row_one}
 

@@ -7,7 +7,7 @@ use Rattle.refusal.specs.declared.Refusal.{Refusal}
 use Rattle.field.specs.Model.{FieldModel, FieldLaws}
 use Rattle.field.specs.Sums.{Vector}
 use Rattle.server.specs.Checks.{Count}
-use Rattle.echelon.specs.Rows.{Figured}
+use Rattle.echelon.specs.Rows.{Figured, row_with}
 use Rattle.answer_log.specs.Rows.{row_bytes}
 use Rattle.answer_log.specs.Entries.{row_length_lem, row_weight, row_figure, EntryCheck, accepted, Reads}
 use Rattle.answer_log.specs.Logs.{RowsCheck, no_more, next_row, LogCheck, rows}
@@ -15,7 +15,7 @@ use Rattle.answer_log.proofs.Logs.{header-same}
 use Rattle.answer_log.proofs.Again.{again}
 use Rattle.answer_log.proofs.Back.{reads_back}
 use Rattle.answer_log.proofs.Readers.{row_within}
-use Rattle.log_record.specs.Joins.{rows_bytes, log_bytes, row_with, joins, RowsJoin, no_more as no_rows, next_row as next_joins, rows as all_rows}
+use Rattle.log_record.specs.Joins.{rows_bytes, log_bytes, joins, RowsJoin, no_more as no_rows, next_row as next_joins, rows as all_rows}
 use Rattle.law.specs.Sound.{AllFine}
 use Rattle.log_record.specs.Theorems.{Bytes, InOrder, AcceptedIsInOrder, ReadIsWritten}
 use Rattle.log_record.proofs.Fine.{reads_fine}

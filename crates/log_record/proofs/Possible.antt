@@ -5,14 +5,14 @@ use Rattle.refusal.specs.declared.LogRow.{LogRow}
 use Rattle.field.specs.Model.{FieldModel, FieldLaws}
 use Rattle.field.specs.Sums.{Vector, Codes, sum}
 use Rattle.server.specs.Tables.{value_at}
-use Rattle.echelon.specs.Rows.{Figured, rows_of, Fits, Fixes}
+use Rattle.echelon.specs.Rows.{Figured, rows_of, Fits, Fixes, row_with}
 use Rattle.echelon.specs.Reduced.{FitsGiven}
 use Rattle.echelon.proofs.Forms.{given-agree}
 use Rattle.echelon.proofs.Given.{fits-given}
 use Rattle.law.specs.States.{answered_by}
 use Rattle.law.proofs.Facts.{sound_after, last_table, all_given}
 use Rattle.law.proofs.Possible.{every_value_stays_possible_lem}
-use Rattle.log_record.specs.Joins.{Contradicts, JoinCheck, joins, row_with, RowsJoin, no_more, next_row, LogRecord, rows}
+use Rattle.log_record.specs.Joins.{Contradicts, JoinCheck, joins, RowsJoin, no_more, next_row, LogRecord, rows}
 use Rattle.log_record.specs.Theorems.{PossibleAfterALog}
 
 module _ (M : FieldModel) (n : ℕ) where

@@ -4,14 +4,14 @@ use Rattle.std.proofs.lemmas.List.{append-nil, append_assoc, take-append-drop, l
 use Rattle.refusal.specs.declared.Refusal.{Refusal}
 use Rattle.field.specs.Model.{FieldModel}
 use Rattle.server.specs.Checks.{Count}
-use Rattle.echelon.specs.Rows.{Figured}
+use Rattle.echelon.specs.Rows.{Figured, row_with}
 use Rattle.answer_log.specs.Rows.{row_bytes}
 use Rattle.answer_log.specs.Entries.{accepted}
 use Rattle.answer_log.proofs.Logs.{header-same}
 use Rattle.answer_log.proofs.Again.{again}
 use Rattle.answer_log.proofs.Back.{reads_back}
 use Rattle.answer_log.proofs.Readers.{row_within}
-use Rattle.log_record.specs.Joins.{rows_bytes, row_with, joins, RowsJoin, no_more, next_row, rows}
+use Rattle.log_record.specs.Joins.{rows_bytes, joins, RowsJoin, no_more, next_row, rows}
 use Rattle.log_record.specs.Theorems.{Bytes, InOrder, AcceptedIsWritten, WrittenIsAccepted}
 
 pub no_bytes : (bs : List ℕ) → length bs ≡ 0 → bs ≡ []

@@ -6,6 +6,8 @@
 --   RowsJoin M n k before bs r given   r is the answer for the rows bs from number k on, after the rows before
 --   LogRecord M n bs r given    r is the answer for a log, where n is the server's count
 --   Recorded M n given rec      the record is the reduced form of the rows given, which pin nobody, and every table that fits it has each figure given
+--   JoinsAfter M n k rec g rec'   after whatever rows rec is recorded for, the row of g joins, and rec' is recorded for them with g
+--   RefusedAfter M n k rec g e    after whatever rows rec is recorded for, the row of g is refused by e
 -- Of a log, `given` are all rows with their figures, and none where it is refused.
 -- Lists of rows have the newest first. Assumes nothing.
 use Rattle.std.specs.Prelude.{◌≡◌, ℕ, ◌+◌, ◌<◌, ◌≤◌, List, [], ◌∷◌, ◌++◌, length, drop, Some, None, Option, ◌≢◌}
@@ -15,7 +17,7 @@ use Rattle.refusal.specs.declared.Site.TheVariants.{OfRow}
 use Rattle.refusal.specs.declared.LogRow.{LogRow}
 use Rattle.field.specs.Model.{FieldModel}
 use Rattle.field.specs.Sums.{Vector, Codes, sum}
-use Rattle.echelon.specs.Rows.{Figured, rows_of, RowsCodes, Fits, Pins, Fixes}
+use Rattle.echelon.specs.Rows.{Figured, rows_of, RowsCodes, Fits, Pins, Fixes, row_with}
 use Rattle.echelon.specs.Reduced.{Pivoted, all_figured, ReducedForm}
 use Rattle.answer_log.specs.Rows.{header_bytes, row_bytes}
 use Rattle.answer_log.specs.Entries.{EntryCheck, Reads, HeaderCheck}
@@ -40,10 +42,6 @@ pub data JoinCheck (M : FieldModel) (n : ℕ) (k : LogRow) (before : List Figure
   other_figure :
       ((i : ℕ) → PinsWith M n before g i → ⊥) → Contradicts M n before g → JoinCheck M n k before g (Some (OtherFigure k))
   joins : ((i : ℕ) → PinsWith M n before g i → ⊥) → (Contradicts M n before g → ⊥) → JoinCheck M n k before g None
-
--- a row of these weights with this figure
-abbrev pub row_with : Vector → ℕ → Figured
-row_with w f = record { row = w; figure = f }
 
 pub data RowsJoin (M : FieldModel) (n : ℕ) : ℕ → List Figured → List ℕ → Option Refusal → List Figured → Type 0 where
   no_more : (k : ℕ) (before : List Figured) (bs : List ℕ) → length bs ≡ 0 → RowsJoin M n k before bs None before
@@ -71,3 +69,10 @@ pub record Recorded (M : FieldModel) (n : ℕ) (given : List Figured) (rec : Lis
   pub pins_nobody : (i : ℕ) → i < n → Pins M n (rows_of given) i → ⊥
   pub form : ReducedForm M n given rec
   pub figures : (t : Vector) → Codes M n t → Fits M n (all_figured rec) t → Fits M n given t
+
+abbrev pub JoinsAfter : FieldModel → ℕ → LogRow → List Pivoted → Figured → List Pivoted → Type 0
+JoinsAfter M n k rec g rec' =
+    (before : List Figured) → Recorded M n before rec → JoinCheck M n k before g None × Recorded M n (g ∷ before) rec'
+
+abbrev pub RefusedAfter : FieldModel → ℕ → LogRow → List Pivoted → Figured → Refusal → Type 0
+RefusedAfter M n k rec g e = (before : List Figured) → Recorded M n before rec → JoinCheck M n k before g (Some e)

@@ -1,33 +1,34 @@
 // One row of a log joins the record.
-ghost use Rattle.std.specs.Prelude.{◌≡◌, ◌<◌, List, ◌∷◌, Some, None, MatchResult, OnErr};
-ghost use Rattle.echelon.specs.Rows.{Figured, given_row};
-ghost use Rattle.checks.specs.Checks.{RowCheck};
+ghost use Rattle.std.specs.Prelude.{◌≡◌, ◌<◌, OnOk, OnErr, IfErr};
+ghost use Rattle.checks.specs.CheckedRows.{row_of};
 ghost use Rattle.record.specs.Records.{rec_of};
-ghost use Rattle.log_record.specs.Joins.{JoinCheck, Recorded};
+ghost use Rattle.log_record.specs.Joins.{JoinsAfter, RefusedAfter};
+ghost use Rattle.echelon.specs.Rows.{row_with};
 
+use checks::CheckedRow;
 use field::{Element, Field};
 use record::{Judgement, Record};
 use refusal::{LogRow, Refusal, Site};
 
-// Takes a row that passed its checks into the record, with the log's figure.
+// Takes a row into the record, with the log's figure.
 pub(crate) fn join_row<F: Field>(
     held: &mut Record<F>,
-    weights: &[Element],
+    row: &CheckedRow<F>,
     figure: Element,
-    row: LogRow,
+    number: LogRow,
 ) -> Result<(), Refusal>
-    requires checked { RowCheck F.model held.old.count weights.now None }
     requires figure { figure.0 < F.model.size }
     ensures count { held.new.count ≡ held.old.count }
     ensures kept { OnErr result (rec_of held.new ≡ rec_of held.old) }
-    ensures joins { (before : List Figured) → Recorded F.model held.old.count before (rec_of held.old) → MatchResult result (λ _. JoinCheck F.model held.old.count row before (given_row weights.now figure.0) None × Recorded F.model held.old.count (given_row weights.now figure.0 ∷ before) (rec_of held.new)) (λ e. JoinCheck F.model held.old.count row before (given_row weights.now figure.0) (Some e)) }
+    ensures joins { OnOk result (JoinsAfter F.model held.old.count number (rec_of held.old) (row_with (row_of row.now) figure.0) (rec_of held.new)) }
+    ensures refused { IfErr result (RefusedAfter F.model held.old.count number (rec_of held.old) (row_with (row_of row.now) figure.0)) }
 {
-    match held.judge(weights).unwrap() {
-        Judgement::Pinning(_) => Err(Refusal::Discloses(Site::OfRow(row))),
-        Judgement::Fixed(known) if known != figure => Err(Refusal::OtherFigure(row)),
+    match held.judge(row) {
+        Judgement::Pinning(_) => Err(Refusal::Discloses(Site::OfRow(number))),
+        Judgement::Fixed(known) if known != figure => Err(Refusal::OtherFigure(number)),
         Judgement::Fixed(_) => Ok(()),
         Judgement::Free => {
-            held.admit(weights, figure).unwrap();
+            held.admit(row, figure).unwrap();
             Ok(())
         }
     }

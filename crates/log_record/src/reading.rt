@@ -30,7 +30,7 @@ fn read_rows<F: Field>(held: &mut Record<F>, log: &[u8]) -> Result<(), Refusal>
     let n = held.count();
     for (row, entry) in LogRows::<F>::new(log, n).enumerate() {
         let entry = entry?;
-        join_row(held, &entry.weights[..n], entry.figure, LogRow(row))?;
+        join_row(held, &entry.row, entry.figure, LogRow(row))?;
     }
     Ok(())
 }

@@ -8,9 +8,7 @@ use Rattle.field.specs.Sums.{minus}
 use Rattle.echelon.specs.Reduced.{Pivoted, at, Same, Reduced}
 use Rattle.echelon.specs.Elimination.{pivot_cleared, joined}
 use Rattle.echelon.proofs.Joined.{put, put-length, put_low, put_here, put_high}
-use Rattle.record.specs.Rows.{pivoted}
-use Rattle.record.specs.Shapes.{all_pivoted}
-use Rattle.record.specs.Judged.{SamePivoted}
+use Rattle.record.specs.Rows.{pivoted, all_pivoted, SamePivoted}
 use Rattle.record.proofs.Shaped.{few-rows}
 use Rattle.record.specs.declared.rows.RecordRow.{RecordRow}
 

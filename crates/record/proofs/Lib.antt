@@ -5,5 +5,6 @@ pub mod Join
 pub mod Shaped
 pub mod Standing
 pub mod Verdict
+pub mod Figures
 pub mod Admitting
 pub mod Told

@@ -4,13 +4,13 @@ use Rattle.field.specs.Model.{FieldModel, FieldLaws}
 use Rattle.field.specs.Sums.{Vector}
 use Rattle.server.specs.Checks.{Lowest}
 use Rattle.echelon.specs.Rows.{Figured, CodedRow}
-use Rattle.echelon.specs.Reduced.{Pivoted, at, figured, Alone, Reduced, PinnedWith}
-use Rattle.echelon.specs.Elimination.{leftover, scaled, AloneWith}
+use Rattle.echelon.specs.Reduced.{Pivoted, at, Alone, Reduced, PinnedWith}
+use Rattle.echelon.specs.Elimination.{leftover, AloneWith}
 use Rattle.echelon.proofs.Values.{all_codes, leftover-codes, times_nothing}
-use Rattle.record.specs.Rows.{pivoted, SameRow}
-use Rattle.record.specs.Judged.{SamePivoted}
+use Rattle.record.specs.Rows.{pivoted, SameRow, SamePivoted, MadeFresh}
 use Rattle.record.specs.Standings.{Left, fresh_row}
 use Rattle.record.specs.declared.rows.RecordRow.{RecordRow}
+use Rattle.record.specs.declared.rows.FreshRow.{FreshRow}
 use Rattle.record.proofs.Join.{cleared_by_same, turned}
 use Rattle.echelon.proofs.Judging.{own, others, pinned_stands-alone, alone_is_pinned}
 
@@ -38,15 +38,15 @@ module _
     lowest = λ m h. let inside : m < n = omega arith in sym (same.rows m inside) ∙ lowest m h;
   }
 
-  pub fresh-same :
-      (x : RecordRow) → x.pivot.0 < n → SameRow n (figured (pivoted x)) (scaled M (M.inverse (l.row x.pivot.0)) l)
-      → SamePivoted n (fresh_row M rec g x.pivot.0) (pivoted x)
-  fresh-same x below made =
-      let p = x.pivot.0 in
+  pub fresh-same : (x : FreshRow) → MadeFresh M n l x → SamePivoted n (fresh_row M rec g x.row.pivot.0) (pivoted x.row)
+  fresh-same x fresh =
+      let p = x.row.pivot.0 in
+      let made = fresh.made in
+      let factor : x.factor.0 ≡ M.inverse ((leftover M rec g).row p) = fresh.factor ∙ ap M.inverse (same.rows p fresh.first.0) in
       record {
         pivots = refl;
-        weights = λ m b. sym (made.rows m b ∙ ap₂ (λ q w. M.times (M.inverse q) w) (same.rows p below) (same.rows m b));
-        figures = sym (made.figures ∙ ap₂ (λ q w. M.times (M.inverse q) w) (same.rows p below) same.figures);
+        weights = λ m b. sym (made.rows m b ∙ ap₂ M.times factor (same.rows m b));
+        figures = sym (made.figures ∙ ap₂ M.times factor same.figures);
       }
 
 module _

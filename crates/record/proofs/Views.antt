@@ -11,15 +11,15 @@ use Rattle.std.proofs.lemmas.Bool.Decides.{nat_tests}
 use Rattle.std.proofs.lemmas.List.Sorted.{IsNonDecreasingBy-from_default}
 use Rattle.std.proofs.lemmas.List.{get_or-set_same, get_or-set_other, get_or_default}
 use Rattle.field.specs.Model.{FieldModel}
-use Rattle.field.specs.Sums.{weights_of}
+use Rattle.field.specs.Sums.{Codes, weights_of}
 use Rattle.field.specs.declared.Field.{Ghosts}
-use Rattle.echelon.specs.Reduced.{Pivoted, at, figured, Reduced}
+use Rattle.checks.specs.CheckedRows.{row_of}
+use Rattle.checks.specs.declared.row.CheckedRow.{CheckedRow}
+use Rattle.echelon.specs.Reduced.{Pivoted, at, figured}
 use Rattle.echelon.specs.Elimination.{cleared, leftover, pivot_cleared}
 use Rattle.echelon.specs.Rows.{Figured, minus, CodedRow}
-use Rattle.record.specs.Rows.{pivoted, SameRow}
-use Rattle.record.specs.Shapes.{all_pivoted}
+use Rattle.record.specs.Rows.{pivoted, all_pivoted, SameRow, SamePivoted}
 use Rattle.record.specs.Records.{rec_of}
-use Rattle.record.specs.Judged.{SamePivoted}
 use Rattle.record.specs.declared.rows.RecordRow.{RecordRow}
 use Rattle.record.specs.declared.record.Record.{Record}
 
@@ -32,16 +32,9 @@ at_row rows a = get_or-map pivoted rows a no_record_row
 pub rows-length : (rows : List RecordRow) → length (all_pivoted rows) ≡ length rows
 rows-length rows = length-map rows pivoted
 
-pub reduced_of : {F : Type 0} {G : Ghosts F} (r : Record F G) → Reduced G.model r.count (rec_of r)
-reduced_of r = record {
-  weights_codes = λ a h. (r.coded a h).0;
-  figure_code = λ a h. (r.coded a h).1;
-  pivot_below = r.pivots_below;
-  pivots_rise = r.pivots_rise;
-  own_pivot = r.own_pivot;
-  lowest_named = λ a m h b. r.lowest_named a m (h, b);
-  other_pivots = λ a b h k ne. r.other_pivots a b (h, k, ne);
-}
+-- the weights of a checked row are elements at the record's members
+pub row-elements : {F : Type 0} {G : Ghosts F} (r : Record F G) (w : CheckedRow F G) → Codes G.model r.count (row_of w)
+row-elements r w m h = w.elements m (omega (arith, r.members))
 
 -- equal rows, cleared by one row, are equal
 pub cleared-same :
@@ -73,9 +66,9 @@ facts_of {G = G} r sl e a h =
     record {
       below = below;
       is = is;
-      pivot = subst (λ (p : Pivoted). p.pivot < r.count) is (r.pivots_below a below);
-      coded = subst (λ (p : Pivoted). CodedRow G.model r.count (figured p)) is (r.coded a below);
-      lowest = subst (λ (p : Pivoted). (m : ℕ) → m < p.pivot → p.weights m ≡ 0) is (λ m b. r.lowest_named a m (below, b));
+      pivot = subst (λ (p : Pivoted). p.pivot < r.count) is (r.reduced.pivot_below a below);
+      coded = subst (λ (p : Pivoted). CodedRow G.model r.count (figured p)) is (r.reduced.weights_codes a below, r.reduced.figure_code a below);
+      lowest = subst (λ (p : Pivoted). (m : ℕ) → m < p.pivot → p.weights m ≡ 0) is (λ m b. r.reduced.lowest_named a m below b);
     }
 
 pub leftover-same :
@@ -109,7 +102,7 @@ pivots_sorted r =
     (λ i j le h.
     elim (ℕ_discrete i j) [
       | yes e ↦ subst (λ k. (get_or rows i no_record_row).pivot.0 ≤ (get_or rows k no_record_row).pivot.0) e (omega arith)
-      | no ne ↦ let rises = r.pivots_rise i j (omega (arith, ne)) (simp length-map h) in omega (arith, pivot i, pivot j, rises)
+      | no ne ↦ let rises = r.reduced.pivots_rise i j (omega (arith, ne)) (simp length-map h) in omega (arith, pivot i, pivot j, rises)
     ])
 
 -- the order of a number and m rises with the number

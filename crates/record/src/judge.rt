@@ -1,5 +1,5 @@
 // What the record answers when it is asked about a row.
-use crate::rows::RecordRow;
+use crate::rows::FreshRow;
 use field::Element;
 use refusal::Member;
 
@@ -26,5 +26,5 @@ pub enum Admission {
 pub enum Standing {
     Fixed(Element),
     Pinning(Member),
-    Fresh(RecordRow),
+    Fresh(FreshRow),
 }

@@ -1,14 +1,13 @@
 -- Answers for `read_rows`: row after row.
-use Rattle.std.proofs.Common.{◌≡◌, ℕ, ◌+◌, ◌<◌, ◌≤◌, List, [], ◌∷◌, length, get_or, take, drop, Some, None, sym, ap, ◌∙◌, subst, arith, rules}
+use Rattle.std.proofs.Common.{ℕ, ◌+◌, ◌≤◌, List, [], ◌∷◌, length, drop, Some, None, sym, ap, ◌∙◌, subst, arith, rules}
 use Rattle.std.specs.Iterator.Adapters.{enumerate_source, enumerate_count}
 use Rattle.std.proofs.lemmas.Result.{err_from_is_err_and}
-use Rattle.checks.specs.Checks.{RowCheck}
-use Rattle.echelon.specs.Rows.{given_row, Figured}
+use Rattle.checks.specs.CheckedRows.{row_of}
+use Rattle.echelon.specs.Rows.{Figured, row_with}
 use Rattle.record.specs.Records.{rec_of}
-use Rattle.answer_log.proofs.Logs.{row_count, cut_reads}
+use Rattle.answer_log.proofs.Logs.{read_figure}
 use Rattle.answer_log.proofs.Steps.{whole_still, count-still, left_within, row_read, next-place, row_bad}
-use Rattle.log_record.specs.Joins.{JoinCheck, RowsJoin, Recorded}
-use Rattle.log_record.proofs.Fine.{cut_checked}
+use Rattle.log_record.specs.Joins.{RowsJoin, Recorded, JoinsAfter, RefusedAfter}
 use Rattle.log_record.proofs.Forwards.{rows_done, row-refused, row-kept_out, row-joined}
 use Rattle.log_record.proofs.Verdicts.{nothing_yet}
 use Rattle.log_record.proofs.reading.read_rows.Goals as goal
@@ -67,16 +66,8 @@ join_row-requires g c =
     let bytes = c.args.log.now in
     let s = enumerate_source c.loop-row.row-iterator in
     let t = enumerate_source c.next.new.self in
-    let step = c.in-Some.ensures.steps.0 in
-    let entry = c.in_ok-entry.entry in
-    let ws = entry.weights in
-    let f = entry.figure.0 in
-    let row = row_read M s t _ step bytes n inv.2 inv.3 entry c.in_ok-entry.was in
-    let whole : length ws ≡ 64 = search rules in
-    let long : n ≤ length ws = omega (arith, row_count M n _ _ row.reads.check) in
-    let fit : (i : ℕ) → get_or bytes i 0 < 256 = λ i. (c.type_inv.log i).fits in
-    let (checked, figure) = cut_checked M g.met.F.Field.laws n _ bytes fit s.at ws f entry.next row long in
-    record { checked = subst (λ (m : ℕ). RowCheck M m (take n ws) None) (sym inv.5) checked; figure = figure }
+    let row = row_read M s t _ c.in-Some.ensures.steps.0 bytes n inv.2 inv.3 c.in_ok-entry.entry c.in_ok-entry.was in
+    record { figure = read_figure M n _ _ _ _ _ row.reads }
 
 pub returns-in_err-join_row : goal.returns-in_err-join_row
 returns-in_err-join_row g c =
@@ -88,24 +79,18 @@ returns-in_err-join_row g c =
     let t = enumerate_source c.next.new.self in
     let step = c.in-Some.ensures.steps.0 in
     let entry = c.in_ok-entry.entry in
-    let ws = entry.weights in
+    let w = row_of entry.row in
     let f = entry.figure.0 in
     let row = row_read M s t _ step bytes n inv.2 inv.3 entry c.in_ok-entry.was in
-    let whole : length ws ≡ 64 = search rules in
-    let long : n ≤ length ws = omega (arith, row_count M n _ _ row.reads.check) in
-    let fit : (i : ℕ) → get_or bytes i 0 < 256 = λ i. (c.type_inv.log i).fits in
-    let reads = cut_reads M g.met.F.Field.laws n _ bytes fit s.at ws f entry.next row long in
     let left = left_within M s t _ step bytes n inv.2 inv.3 in
     let number = c.in-Some.ensures.steps.1 in
     let e = c.in_err-join_row.field-0.0 in
-    let bad : (before : List Figured) → Recorded M n before (rec_of c.loop-row.held) → JoinCheck M n (record { 0 = s.row }) before (given_row (take n ws) f) (Some e) =
-    subst
-    (λ (m : ℕ). (before : List Figured) → Recorded M m before (rec_of c.loop-row.held) → JoinCheck M m (record { 0 = s.row }) before (given_row (take n ws) f) (Some e))
-    inv.5
-    (subst
-    (λ (k : ℕ). (before : List Figured) → Recorded M c.loop-row.held.count before (rec_of c.loop-row.held) → JoinCheck M c.loop-row.held.count (record { 0 = k }) before (given_row (take n ws) f) (Some e))
-    (omega (arith, number, inv.4)) c.in_err-join_row.ensures.joins) in
-    let all = inv.6.2 (Some e) [] (row-kept_out M n s.row inv.6.0 bytes s.at left _ f entry.next reads e (bad inv.6.0 inv.6.1)) in
+    let bad : RefusedAfter M n (record { 0 = s.row }) (rec_of c.loop-row.held) (row_with w f) e =
+    subst (λ (m : ℕ). RefusedAfter M m (record { 0 = s.row }) (rec_of c.loop-row.held) (row_with w f) e) inv.5
+    (subst (λ (k : ℕ). RefusedAfter M c.loop-row.held.count (record { 0 = k }) (rec_of c.loop-row.held) (row_with w f) e)
+    (omega (arith, number, inv.4)) c.in_err-join_row.ensures.refused)
+    in
+    let all = inv.6.2 (Some e) [] (row-kept_out M n s.row inv.6.0 bytes s.at left _ f entry.next row.reads e (bad inv.6.0 inv.6.1)) in
     let p = err_from_is_err_and c.from_residual-in_err-join_row.result c.from_residual-in_err-join_row.ensures.1 in
     rw (p.1, p.2)
     (record {
@@ -123,24 +108,19 @@ loop-row-preserved g c =
     let t = enumerate_source c.next.new.self in
     let step = c.in-Some.ensures.steps.0 in
     let entry = c.in_ok-entry.entry in
-    let ws = entry.weights in
+    let w = row_of entry.row in
     let f = entry.figure.0 in
     let row = row_read M s t _ step bytes n inv.2 inv.3 entry c.in_ok-entry.was in
-    let whole : length ws ≡ 64 = search rules in
-    let long : n ≤ length ws = omega (arith, row_count M n _ _ row.reads.check) in
-    let fit : (i : ℕ) → get_or bytes i 0 < 256 = λ i. (c.type_inv.log i).fits in
-    let reads = cut_reads M g.met.F.Field.laws n _ bytes fit s.at ws f entry.next row long in
     let left = left_within M s t _ step bytes n inv.2 inv.3 in
     let number = c.in-Some.ensures.steps.1 in
-    let G = given_row (take n ws) f in
-    let joined : JoinCheck M n (record { 0 = s.row }) inv.6.0 G None × Recorded M n (G ∷ inv.6.0) (rec_of c.join_row.new.held) =
-    subst
-    (λ (m : ℕ). (before : List Figured) → Recorded M m before (rec_of c.loop-row.held) → JoinCheck M m (record { 0 = s.row }) before G None × Recorded M m (G ∷ before) (rec_of c.join_row.new.held))
-    inv.5
-    (subst
-    (λ (k : ℕ). (before : List Figured) → Recorded M c.loop-row.held.count before (rec_of c.loop-row.held) → JoinCheck M c.loop-row.held.count (record { 0 = k }) before G None × Recorded M c.loop-row.held.count (G ∷ before) (rec_of c.join_row.new.held))
+    let G = row_with w f in
+    let after = rec_of c.join_row.new.held in
+    let behind : JoinsAfter M n (record { 0 = s.row }) (rec_of c.loop-row.held) G after =
+    subst (λ (m : ℕ). JoinsAfter M m (record { 0 = s.row }) (rec_of c.loop-row.held) G after) inv.5
+    (subst (λ (k : ℕ). JoinsAfter M c.loop-row.held.count (record { 0 = k }) (rec_of c.loop-row.held) G after)
     (omega (arith, number, inv.4)) c.in_ok-join_row.ensures.joins)
-    inv.6.0 inv.6.1 in
+    in
+    let joined = behind inv.6.0 inv.6.1 in
     let goes = c.in-Some.ensures.goes in (
       goes.keeps,
       (goes.on inv.1).1,
@@ -153,7 +133,7 @@ loop-row-preserved g c =
         joined.1,
         λ r given rest.
             inv.6.2 r given
-            (row-joined M n s.row inv.6.0 bytes s.at left _ f entry.next reads row.on joined.0 r given
+            (row-joined M n s.row inv.6.0 bytes s.at left _ f entry.next row.reads row.on joined.0 r given
             (subst (λ (k : ℕ). RowsJoin M n k (G ∷ inv.6.0) (drop entry.next bytes) r given) step.row
             (subst (λ (i : ℕ). RowsJoin M n t.row (G ∷ inv.6.0) (drop i bytes) r given) (next-place M s t _ step bytes n inv.2 inv.3 entry c.in_ok-entry.was) rest))),
       ),

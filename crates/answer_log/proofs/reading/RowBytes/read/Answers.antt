@@ -4,14 +4,14 @@ use Rattle.field.specs.Bytes.{code_at, width}
 use Rattle.answer_log.specs.Entries.{figure_place, row_length_lem, row_figure, no_figure, accepted}
 use Rattle.answer_log.proofs.reading.RowBytes.read.Goals as goal
 
-pub returns-then-figure-size : goal.returns-then-figure-size
+pub returns-then-figure-size-clause-refused : goal.returns-then-figure-size-clause-refused
 unfolding row_figure
-returns-then-figure-size g c =
+returns-then-figure-size-clause-refused g c =
     let M = g.F.Field.model in
     let bs = c.args.self.now.bytes.now in
     let read : c.decode-figure.result.0 ≡ code_at M bs c.in_ok-place.place = search (c.decode-figure.ensures) in
     let figure = read ∙ ap (code_at M bs) c.in_ok-place.ensures.1 in
-    no_figure c.in_ok-weights.ensures.0 (omega (arith, c.size.ensures, figure))
+    no_figure c.in_ok-row.ensures.weighed (omega (arith, c.size.ensures, figure))
 
 pub overflow_add-next : goal.overflow_add-next
 unfolding row_length_lem
@@ -28,11 +28,15 @@ returns g c =
     let bs = c.args.self.now.bytes.now in
     let read : c.decode-figure.result.0 ≡ code_at M bs c.in_ok-place.place = search (c.decode-figure.ensures) in
     let figure = read ∙ ap (code_at M bs) c.in_ok-place.ensures.1 in
-    let fine = c.in_ok-weights.ensures in
+    let made = c.in_ok-row.ensures in
     record {
-      check = accepted fine.0 (omega (arith, c.size.ensures, figure));
-      weights = fine.1;
-      none_past = fine.2;
-      figure = figure;
-      whole = ap₂ (λ i j. i + j) c.in_ok-place.ensures.1 c.element_width.ensures;
+      row = record {
+        check = accepted made.weighed (omega (arith, c.size.ensures, figure));
+        weights = made.row;
+        none_past = λ m h. c.in_ok-row.row.none_past m (omega (arith, made.count));
+        figure = figure;
+        whole = ap₂ (λ i j. i + j) c.in_ok-place.ensures.1 c.element_width.ensures;
+      };
+      count = made.count;
+      refused = tt;
     }

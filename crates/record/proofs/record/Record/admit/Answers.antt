@@ -1,49 +1,24 @@
-use Rattle.std.proofs.Common.{◌<◌, refl, arith}
-use Rattle.std.proofs.lemmas.Result.{err_from_is_err_and}
-use Rattle.echelon.specs.Rows.{CodedRow, given_row}
+use Rattle.std.proofs.Common.{◌≡◌, ◌<◌, refl, arith}
+use Rattle.field.specs.Sums.{Codes}
+use Rattle.checks.specs.CheckedRows.{row_of}
+use Rattle.record.specs.Judged.{Adds, no_figure, kept, discloses, joined}
+use Rattle.echelon.specs.Rows.{row_with}
 use Rattle.record.specs.Records.{rec_of}
-use Rattle.record.specs.Judged.{bad_row, no_figure, kept, discloses, joined}
-use Rattle.record.proofs.Views.{reduced_of}
-use Rattle.checks.proofs.Passed.{row_length_lem, row-codes}
-use Rattle.record.proofs.Verdict.{judged-pinning, judged-free}
-use Rattle.record.proofs.Admitting.{kept-adds, fixed-row, fresh_facts, joined-reduced, joined_none_alone, after_reduced, after_fits, after_adds}
+use Rattle.record.proofs.Admitting.{kept-adds}
+use Rattle.record.proofs.Verdict.{stands-fixed, stands-fresh, judged-pinning, judged-free}
+use Rattle.record.proofs.Views.{row-elements}
 use Rattle.record.proofs.record.Record.admit.Goals as goal
 
-pub returns-in_err-check_row : goal.returns-in_err-check_row
-returns-in_err-check_row g c =
-    let p = err_from_is_err_and c.from_residual.result c.from_residual.ensures.1 in
-    rw (p.1, p.2) (record { admitted = bad_row _ c.in_err-check_row.ensures refl; count = refl })
-
 pub returns-then-figure-size : goal.returns-then-figure-size
-returns-then-figure-size g c =
-    record { admitted = no_figure c.in_ok-check_row.ensures (omega arith) refl; count = refl }
+returns-then-figure-size g c = record { admitted = no_figure (omega arith) refl; count = refl }
 
-pub assess-requires : goal.assess-requires
-assess-requires g c =
-    let M = g.F.Field.model in
-    let passed = c.in_ok-check_row.ensures in
-    record { length = row_length_lem M _ _ passed; coded = (row-codes M _ _ passed, omega arith) }
-
-pub join-requires : goal.join-requires
-join-requires g c =
-    let M = g.F.Field.model in
-    let L = g.met.F.Field.laws in
+pub take-requires : goal.take-requires
+take-requires g c =
     let r = c.args.self.now in
-    let R = reduced_of r in
-    let ws = c.args.weights.now in
-    let f = c.args.figure.0 in
-    let passed = c.in_ok-check_row.ensures in
-    let figure : f < M.size = omega arith in
-    let coded : CodedRow M r.count (given_row ws f) = (row-codes M _ _ passed, figure) in
-    let x = c.in-Fresh.row in
-    let facts = fresh_facts M r.count (rec_of r) (given_row ws f) x c.in-Fresh.ensures in
-    let k = c.place_of-k.ensures in
+    let codes = row-elements r c.args.row.now in
     record {
-      place = k.within;
-      pivot = facts.left.below;
-      coded = facts.coded;
-      reduced = joined-reduced M L r.count (rec_of r) R (given_row ws f) coded x facts _ k.within k.below k.above;
-      none_alone = joined_none_alone M L r.count (rec_of r) R (given_row ws f) coded x facts _ k.within k.below k.above;
+      figure = omega arith;
+      joins = (row_of c.args.row.now, (codes, stands-fresh g.F.Field.model g.met.F.Field.laws r.count (rec_of r) r.reduced _ codes c.in-Fresh.fresh c.in-Fresh.ensures));
     }
 
 pub returns-in-Fixed : goal.returns-in-Fixed
@@ -51,29 +26,23 @@ returns-in-Fixed g c =
     let M = g.F.Field.model in
     let L = g.met.F.Field.laws in
     let r = c.args.self.now in
-    let R = reduced_of r in
-    let ws = c.args.weights.now in
-    let f = c.args.figure.0 in
-    let passed = c.in_ok-check_row.ensures in
-    let figure : f < M.size = omega arith in
-    let coded : CodedRow M r.count (given_row ws f) = (row-codes M _ _ passed, figure) in
-    let fixes = fixed-row M L r.count (rec_of r) R (given_row ws f) coded _ c.in-Fixed.ensures in
-    let adds = kept-adds M L r.count (rec_of r) (given_row ws f) fixes in
-    record { admitted = search (kept, passed, figure, fixes, adds); count = refl }
+    let figure : c.args.figure.0 < M.size = omega arith in
+    let fixes = stands-fixed M L r.count (rec_of r) r.reduced (row_of c.args.row.now) (row-elements r c.args.row.now) _ c.in-Fixed.ensures in
+    let adds : Adds M r.count (rec_of r) (row_with (row_of c.args.row.now) c.args.figure.0) (rec_of r) =
+    kept-adds M L r.count (rec_of r) (row_with (row_of c.args.row.now) c.args.figure.0) fixes
+    in
+    let same : rec_of r ≡ rec_of r = refl in
+    record { admitted = search (kept, figure, fixes, same, adds); count = refl }
 
 pub returns-in-Pinning : goal.returns-in-Pinning
 returns-in-Pinning g c =
     let M = g.F.Field.model in
     let L = g.met.F.Field.laws in
     let r = c.args.self.now in
-    let R = reduced_of r in
-    let ws = c.args.weights.now in
-    let f = c.args.figure.0 in
-    let passed = c.in_ok-check_row.ensures in
-    let figure : f < M.size = omega arith in
-    let coded : CodedRow M r.count (given_row ws f) = (row-codes M _ _ passed, figure) in
     record {
-      admitted = discloses passed figure _ (judged-pinning M L r.count (rec_of r) R ws coded.0 f figure _ c.in-Pinning.ensures) refl;
+      admitted =
+          discloses (omega arith) _
+          (judged-pinning M L r.count (rec_of r) r.reduced (row_of c.args.row.now) (row-elements r c.args.row.now) _ c.in-Pinning.ensures) refl;
       count = refl;
     }
 
@@ -82,23 +51,12 @@ returns-in-Fresh g c =
     let M = g.F.Field.model in
     let L = g.met.F.Field.laws in
     let r = c.args.self.now in
-    let R = reduced_of r in
-    let ws = c.args.weights.now in
-    let f = c.args.figure.0 in
-    let passed = c.in_ok-check_row.ensures in
-    let figure : f < M.size = omega arith in
-    let coded : CodedRow M r.count (given_row ws f) = (row-codes M _ _ passed, figure) in
-    let x = c.in-Fresh.row in
-    let facts = fresh_facts M r.count (rec_of r) (given_row ws f) x c.in-Fresh.ensures in
-    let k = c.place_of-k.ensures in
-    let after = rec_of c.join.new.self in
-    let same = c.join.ensures.is in
-    let size = c.join.ensures.count in
-    let R₁ = after_reduced M L r.count (rec_of r) R (given_row ws f) coded x facts _ k.within k.below k.above after same in
+    let w = row_of c.args.row.now in
+    let codes : Codes M r.count w = row-elements r c.args.row.now in
+    let may = stands-fresh M L r.count (rec_of r) r.reduced w codes c.in-Fresh.fresh c.in-Fresh.ensures in
     record {
       admitted =
-          joined passed figure (judged-free M L r.count (rec_of r) R ws coded.0 f figure x c.in-Fresh.ensures)
-          (after_fits M L r.count (rec_of r) R (given_row ws f) coded x facts _ k.within k.below k.above after same)
-          (after_adds M L r.count (rec_of r) R (given_row ws f) coded x facts _ k.within k.below k.above after same);
-      count = size;
+          joined (omega arith) (judged-free M L r.count (rec_of r) r.reduced w codes c.in-Fresh.fresh c.in-Fresh.ensures)
+          (c.take.ensures.fits w (codes, may)) (c.take.ensures.adds w (codes, may));
+      count = c.take.ensures.count;
     }

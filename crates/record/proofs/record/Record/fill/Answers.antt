@@ -4,7 +4,7 @@ use lib.ListN.{length-map}
 use Rattle.field.specs.Sums.{weights_of}
 use Rattle.echelon.specs.Reduced.{at}
 use Rattle.record.specs.Records.{rec_of}
-use Rattle.record.proofs.Views.{facts_of, reduced_of, no_record_row}
+use Rattle.record.proofs.Views.{facts_of, no_record_row}
 use Rattle.checks.proofs.Weights.{written, unwritten}
 use Rattle.echelon.proofs.Witnessing.{target, target_pivot, target_self, target_other, target_all, apart}
 use Rattle.record.proofs.record.Record.fill.Goals as goal
@@ -14,7 +14,7 @@ loop-row-init g c =
     let M = g.F.Field.model in
     let L = g.met.F.Field.laws in
     let r = c.args.self.now in
-    let R = reduced_of r in
+    let R = r.reduced in
     let out = c.fill.new.self in
     let j = c.args.free.0 in
     let t = c.args.factor in
@@ -61,7 +61,7 @@ loop-row-preserved g c =
     let M = g.F.Field.model in
     let L = g.met.F.Field.laws in
     let r = c.args.self.now in
-    let R = reduced_of r in
+    let R = r.reduced in
     let out = c.loop-row.out in
     let a = c.loop-row.row-index in
     let j = c.args.free.0 in
@@ -98,7 +98,7 @@ returns g c =
     let M = g.F.Field.model in
     let L = g.met.F.Field.laws in
     let r = c.args.self.now in
-    let R = reduced_of r in
+    let R = r.reduced in
     let all : length (rec_of r) ≤ c.loop-row.row-index = simp length-map (omega (arith, c.as_slice-row-items.ensures.len)) in
     target_all M L r.count (rec_of r) R c.args.factor.0 c.args.free.0 (weights_of c.loop-row.out)
     (λ a h. c.loop-row.invariant.1 a (omega arith)) (λ m h free. c.loop-row.invariant.2 m (omega (arith, c.loop-row.invariant.0)) free)

@@ -1,11 +1,10 @@
-use Rattle.std.proofs.Common.{◌≡◌, true, List, length, is_ok, vec_items, sym, refl, subst, arith}
+use Rattle.std.proofs.Common.{◌≡◌, ◌<◌, true, List, length, is_ok, vec_items, sym, refl, subst, arith}
 use lib.ListN.{length-map}
 use Rattle.std.specs.List.{insert}
 use Rattle.echelon.specs.Reduced.{Same}
 use Rattle.echelon.specs.Elimination.{joined}
 use Rattle.echelon.proofs.Unique.{same-reduced}
-use Rattle.record.specs.Rows.{pivoted}
-use Rattle.record.specs.Shapes.{all_pivoted}
+use Rattle.record.specs.Rows.{pivoted, all_pivoted}
 use Rattle.record.specs.Records.{rec_of}
 use Rattle.record.specs.declared.rows.RecordRow.{RecordRow}
 use Rattle.record.proofs.Join.{same-joined, one_more, joined_lowest}
@@ -22,7 +21,7 @@ clear_rows-requires g c =
       pivot = c.requires.pivot;
       by_coded = c.requires.coded;
       by_lowest = joined_lowest g.F.Field.model r.count (pivoted c.args.fresh) c.args.k.0 (rec_of r) c.requires.place c.requires.reduced;
-      coded = λ a h. r.coded a (simp length-map (omega arith));
+      coded = λ a h. let b : a < length (rec_of r) = simp length-map (omega arith) in (r.reduced.weights_codes a b, r.reduced.figure_code a b);
     }
 
 pub insert-requires : goal.insert-requires
@@ -54,7 +53,7 @@ rows_after g c =
     subst (λ (l : List RecordRow). Same r.count (joined M (pivoted c.args.fresh) c.args.k.0 (rec_of r)) (all_pivoted l)) (sym items)
     (same-joined M r.count c.args.fresh (vec_items r.rows) rows₁
     (omega (arith, c.clear_rows.ensures.len, c.clear_rows.new.rows.ok.0, r.rows.ok.0))
-    (λ a h. c.clear_rows.ensures.is a (omega (arith, r.rows.ok.0))) c.args.k.0 c.requires.place)
+    c.clear_rows.ensures.is c.args.k.0 c.requires.place)
 
 pub invariant_of-self : goal.invariant_of-self
 invariant_of-self g c =
@@ -64,12 +63,7 @@ invariant_of-self g c =
     let R = same-reduced r.count _ _ same M c.requires.reduced in
     record {
       members = r.members;
-      pivots_below = R.pivot_below;
-      pivots_rise = R.pivots_rise;
-      own_pivot = R.own_pivot;
-      lowest_named = λ a m h. R.lowest_named a m h.0 h.1;
-      other_pivots = λ a b h. R.other_pivots a b h.0 h.1 h.2;
-      coded = λ a h. (λ m b. R.weights_codes a h m (omega arith), R.figure_code a h);
+      reduced = R;
       none_alone = same_none_alone M r.count _ _ c.requires.reduced same c.requires.none_alone;
       room = omega (arith, c.insert.ensures.capacity, c.clear_rows.ensures.cap, r.room);
     }

@@ -7,7 +7,7 @@ use Rattle.echelon.specs.Witness.{Free, from_free}
 use Rattle.record.specs.Rows.{pivoted}
 use Rattle.record.specs.declared.rows.RecordRow.{RecordRow}
 use Rattle.record.specs.Records.{rec_of}
-use Rattle.record.proofs.Views.{RowFacts, read_facts, reduced_of, searched}
+use Rattle.record.proofs.Views.{RowFacts, read_facts, searched}
 use Rattle.echelon.proofs.Witnessing.{leads-pivot}
 use Rattle.record.proofs.record.Record.lead.Goals as goal
 use Rattle.record.proofs.record.Record.lead.Goals.{After-binary_search_by_key, After-lowest_other}
@@ -53,7 +53,7 @@ unwrap-free-requires g c =
     some_of _ _ c.lowest_other.result c.lowest_other.ensures
     (λ all.
     r.none_alone k here.below
-    (subst (λ (p : Pivoted). Alone r.count p.weights p.pivot) (sym here.is) (λ z. let one : ◌≡◌ {A = ℕ} 1 0 = sym (subst (λ (p : Pivoted). p.weights p.pivot ≡ 1) here.is (r.own_pivot k here.below)) ∙ z in omega arith, all)))
+    (subst (λ (p : Pivoted). Alone r.count p.weights p.pivot) (sym here.is) (λ z. let one : ◌≡◌ {A = ℕ} 1 0 = sym (subst (λ (p : Pivoted). p.weights p.pivot ≡ 1) here.is (r.reduced.own_pivot k here.below)) ∙ z in omega arith, all)))
 
 pub returns : goal.returns
 returns g c =
@@ -77,7 +77,7 @@ returns g c =
     c.mul.ensures.is
     ∙ ap₂ M.times (difference ∙ ap (λ p. minus M p.figure c.args.element.0) (sym is)) (c.inv-share.ensures.is ∙ ap M.inverse (sym (weight j))) in
     let led =
-    leads-pivot M g.met.F.Field.laws r.count (rec_of r) (reduced_of r) k j c.args.member.0 c.args.element.0 c.mul.result.0
+    leads-pivot M g.met.F.Field.laws r.count (rec_of r) r.reduced k j c.args.member.0 c.args.element.0 c.mul.result.0
     here.below member other.0 (λ z. other.1 (z ∙ sym own)) (λ z. other.2 (sym (weight j) ∙ z))
     (λ m b ne. weight m ∙ other.3 m b (λ z. ne (z ∙ own))) factor in
     record { leads = led.0; below = other.0; free = led.1; factor = c.mul.ensures.within }

@@ -1,13 +1,24 @@
-use Rattle.std.proofs.Common.{◌≡◌, ◌+◌, List, get_or, take, sym, ap, ◌∙◌, subst, add-one, arith, take_all}
+use Rattle.std.proofs.Common.{◌≡◌, ◌+◌, ◌<◌, List, get_or, take, refl, sym, ap, ◌∙◌, subst, add-one, arith, take_all}
 use lib.ListN.{length-map}
-use Rattle.echelon.specs.Rows.{Figured, given_row}
+use Rattle.echelon.specs.Rows.{Figured}
 use Rattle.echelon.specs.Reduced.{Pivoted}
 use Rattle.echelon.specs.Elimination.{cleared, leftover}
 use Rattle.echelon.proofs.Leftover.{leftover-next}
 use Rattle.record.specs.Rows.{figured_row, pivoted, SameRow}
 use Rattle.record.specs.Records.{rec_of}
-use Rattle.record.proofs.Views.{facts_of, cleared-same, same_trans, no_record_row, leftover-same}
+use Rattle.record.specs.Standings.{unfigured}
+use Rattle.checks.specs.CheckedRows.{row_of}
+use Rattle.field.specs.Sums.{Vector}
+use Rattle.field.proofs.Zero.{zero-code}
+use Rattle.record.proofs.Views.{row-elements, facts_of, cleared-same, same_trans, no_record_row, leftover-same}
 use Rattle.record.proofs.record.Record.leftover.Goals as goal
+
+pub loop-by-init : goal.loop-by-init
+loop-by-init g c =
+    let r = c.args.self.now in (
+      record { rows = λ m h. refl; figures = refl },
+      (λ m h. subst (λ (w : Vector). w m < g.F.Field.model.size) (sym c.places.ensures) (row-elements r c.args.row.now m h), zero-code g.F.Field.model g.met.F.Field.laws),
+    )
 
 pub clear-requires : goal.clear-requires
 clear-requires g c =
@@ -22,7 +33,7 @@ loop-by-preserved g c =
     let a = c.loop-by.by-index in
     let sl = c.as_slice-rows.result.now in
     let x = get_or sl a no_record_row in
-    let start = figured_row c.of-left.result in
+    let start = figured_row (record { weights = c.places.result; figure = record { 0 = 0 } }) in
     let here = facts_of r sl c.as_slice-rows.ensures.value a c.loop-by-test.true in
     let step : leftover M (take (a + 1) (rec_of r)) start ≡ cleared M (pivoted x) (leftover M (take a (rec_of r)) start) =
     ap (λ k. leftover M (take k (rec_of r)) start) (add-one a)
@@ -37,12 +48,12 @@ pub returns : goal.returns
 returns g c =
     let M = g.F.Field.model in
     let r = c.args.self.now in
-    let start = figured_row c.of-left.result in
+    let start = figured_row (record { weights = c.places.result; figure = record { 0 = 0 } }) in
     let whole = take_all c.loop-by.by-index (rec_of r) (simp length-map (omega (arith, c.as_slice-rows.ensures.len))) in
     record {
       is = same_trans
           (subst (λ (l : List Pivoted). SameRow r.count (figured_row c.loop-by.left) (leftover M l start)) whole c.loop-by.invariant.0)
-          (leftover-same M r.count (rec_of r) start (given_row c.args.weights.now c.args.figure.0) r.pivots_below
-          (record { rows = λ m b. c.of-left.ensures.row m; figures = ap (λ e. e.0) c.of-left.ensures.figure }));
+          (leftover-same M r.count (rec_of r) start (unfigured (row_of c.args.row.now)) r.reduced.pivot_below
+          (record { rows = λ m b. ap (λ w. w m) c.places.ensures; figures = refl }));
       coded = c.loop-by.invariant.1;
     }

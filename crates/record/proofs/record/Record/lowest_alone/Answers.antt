@@ -6,7 +6,7 @@ use Rattle.refusal.specs.declared.Member.{Member}
 use Rattle.record.specs.Rows.{pivoted}
 use Rattle.record.specs.Records.{rec_of}
 use Rattle.echelon.specs.Elimination.{AloneWith}
-use Rattle.record.proofs.Views.{facts_of, reduced_of, no_record_row}
+use Rattle.record.proofs.Views.{facts_of, no_record_row}
 use Rattle.record.proofs.Alone.{alone-found, alone_missed, row_is_lowest, fresh_is_lowest, none_is, not_alone}
 use Rattle.record.proofs.Told.{none_told, some_told, told_of}
 use Rattle.record.proofs.record.Record.lowest_alone.Goals as goal
@@ -24,7 +24,7 @@ returns-then-is_none g c =
     let r = c.args.self.now in
     let a = c.loop-row.row-index in
     let e = pivoted c.args.fresh.now in
-    let R = reduced_of r in
+    let R = r.reduced in
     let x = get_or c.as_slice-row-items.result.now a no_record_row in
     let here = facts_of r c.as_slice-row-items.result.now c.as_slice-row-items.ensures.value a c.loop-row-test.true in
     let found =
@@ -41,7 +41,7 @@ loop-row-preserved g c =
     let r = c.args.self.now in
     let a = c.loop-row.row-index in
     let e = pivoted c.args.fresh.now in
-    let R = reduced_of r in
+    let R = r.reduced in
     let x = get_or c.as_slice-row-items.result.now a no_record_row in
     let here = facts_of r c.as_slice-row-items.result.now c.as_slice-row-items.ensures.value a c.loop-row-test.true in
     let (m, other) = some_told _ _ _ (c.is_none.ensures ∙ ap not c.if-is_none.false) c.lowest_other_without-other.ensures in
@@ -61,8 +61,8 @@ returns g c =
     (told_of _ _ ((i : ℕ) → none i → ⊥) (λ i. Lowest none i.0) c.args.fresh.now.pivot c.is_none-2.result c.lowest_other-other.result c.is_none-2.ensures
     c.lowest_other-other.ensures
     (λ alone.
-    fresh_is_lowest M L r.count (rec_of r) (reduced_of r) r.none_alone e c.requires.pivot c.requires.coded c.requires.own c.requires.others
+    fresh_is_lowest M L r.count (rec_of r) r.reduced r.none_alone e c.requires.pivot c.requires.coded c.requires.own c.requires.others
     (λ b h. c.loop-row.invariant b (omega arith)) (λ z. let one : ◌≡◌ {A = ℕ} 1 0 = sym c.requires.own ∙ z in omega arith, alone))
     (λ m other.
-    none_is M L r.count (rec_of r) (reduced_of r) r.none_alone e c.requires.pivot c.requires.coded c.requires.own c.requires.others
+    none_is M L r.count (rec_of r) r.reduced r.none_alone e c.requires.pivot c.requires.coded c.requires.own c.requires.others
     (λ b h. c.loop-row.invariant b (omega arith)) (not_alone _ e.weights _ _ other.0 other.1 other.2)))

@@ -3,8 +3,8 @@ use lib.ListN.{length-map}
 use Rattle.std.specs.List.Sorted.{IsPartitionedBy}
 use Rattle.std.proofs.lemmas.List.Sorted.{IsPartitionPoint-from_clause, IsPartitionedBy-ltb}
 use Rattle.echelon.specs.Reduced.{at}
+use Rattle.record.specs.Rows.{all_pivoted}
 use Rattle.record.specs.Records.{rec_of}
-use Rattle.record.specs.Shapes.{all_pivoted}
 use Rattle.record.proofs.Views.{at_row, no_record_row, pivots_sorted}
 use Rattle.record.proofs.record.Record.place_of.Goals as goal
 

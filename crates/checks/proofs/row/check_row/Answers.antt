@@ -3,8 +3,8 @@ use Rattle.std.proofs.lemmas.Iterator.{IsFirst-from_position, YieldsList-from_sl
 use borrow.Author.Tests.{tests}
 use Rattle.checks.specs.Checks.{wrong_length, not_an_element, none_named, accepted}
 use Rattle.checks.proofs.Searches.{FirstStray, first_stray, all_elements, AnyNamed, all_zero, one_named}
-use Rattle.checks.proofs.rows.check_row.Goals as goal
-use Rattle.checks.proofs.rows.check_row.Goals.{After-position, After-all}
+use Rattle.checks.proofs.row.check_row.Goals as goal
+use Rattle.checks.proofs.row.check_row.Goals.{After-position, After-all}
 
 pub returns-then-weights-n : goal.returns-then-weights-n
 returns-then-weights-n g c = wrong_length c.if-weights-n.true

@@ -1,10 +1,8 @@
 use Rattle.std.proofs.Common.{◌≡◌, ℕ, ◌<◌, ◌≤◌}
 use Rattle.echelon.specs.Reduced.{at}
 use Rattle.echelon.specs.Elimination.{pivot_cleared}
-use Rattle.record.specs.Rows.{pivoted}
-use Rattle.record.specs.Shapes.{all_pivoted}
-use Rattle.record.specs.Judged.{SamePivoted}
-use Rattle.record.proofs.record.join.clear_rows.Given as goal
+use Rattle.record.specs.Rows.{pivoted, all_pivoted, SamePivoted}
+use Rattle.record.proofs.record.clear_rows.Given as goal
 
 abbrev pub invariant-loop-row : goal.invariant-loop-row
 invariant-loop-row g l =

@@ -3,13 +3,11 @@ use native.Mathlib.Decide.{ℕ_discrete}
 use Rattle.echelon.specs.Rows.{CodedRow}
 use Rattle.echelon.specs.Reduced.{Pivoted, at, figured}
 use Rattle.echelon.specs.Elimination.{cleared, pivot_cleared}
-use Rattle.record.specs.Rows.{figured_row, pivoted, SameRow}
-use Rattle.record.specs.Shapes.{all_pivoted}
-use Rattle.record.specs.Judged.{SamePivoted}
+use Rattle.record.specs.Rows.{figured_row, pivoted, SameRow, all_pivoted, SamePivoted}
 use Rattle.record.specs.declared.rows.RecordRow.{RecordRow}
 use Rattle.record.proofs.Views.{at_row, set_here, set_other, cleared-row, no_record_row}
-use Rattle.record.proofs.record.join.clear_rows.Goals as goal
-use Rattle.record.proofs.record.join.clear_rows.Goals.{At-loop-row}
+use Rattle.record.proofs.record.clear_rows.Goals as goal
+use Rattle.record.proofs.record.clear_rows.Goals.{At-loop-row}
 
 -- the row that the loop has come to, as it was
 untouched :
