@@ -1,5 +1,5 @@
 -- A row that was read is one that a log can hold. Assumes nothing.
-use Rattle.std.proofs.Common.{ℕ, List, None, sym, ◌∙◌, inr, ⊎_elim}
+use Rattle.std.proofs.Common.{◌≡◌, ℕ, ◌<◌, List, None, sym, ◌∙◌, inr, ⊎_elim}
 use Rattle.std.proofs.lemmas.Bool.{cases_Bool}
 use Rattle.refusal.specs.declared.LogRow.{LogRow}
 use Rattle.field.specs.Model.{FieldModel, FieldLaws}
