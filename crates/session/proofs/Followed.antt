@@ -1,6 +1,7 @@
 -- One call more, over states. Assumes nothing.
-use Rattle.std.proofs.Common.{◌≡◌, ℕ, ◌+◌, ◌<◌, ◌≤◌, true, false, ◌≢◌, List, length, take, is_some, Some, None, Option, sym, refl, ap, ◌∙◌, subst, arith}
+use Rattle.std.proofs.Common.{◌≡◌, ℕ, ◌+◌, ◌<◌, ◌≤◌, true, false, ◌≢◌, List, length, is_some, Some, None, Option, option_map, sym, refl, ap, ◌∙◌, subst, arith}
 use borrow.Author.Tests.{clash}
+use Rattle.std.specs.Option.{ForSome}
 use lib.ListN.{length-map, get_or-map}
 use Rattle.echelon.specs.Witness.{Witness}
 use Rattle.refusal.specs.declared.Refusal.{Refusal}
@@ -13,102 +14,100 @@ use Rattle.field.specs.Sums.{sum, weights_of}
 use Rattle.field.specs.declared.Element.{Element}
 use Rattle.server.specs.Checks.{Lowest}
 use Rattle.server.specs.Tables.{Table, value_at, codes}
-use Rattle.echelon.specs.Rows.{Figured}
+use Rattle.echelon.specs.Rows.{Figured, row_with}
 use Rattle.echelon.specs.Reduced.{Pivoted, all_figured, NoneAlone, PinnedWith, Reduced, ReducedForm}
 use Rattle.echelon.proofs.ByForm as by_form
 use Rattle.checks.specs.Checks.{RowCheck, WitnessCheck}
 use Rattle.checks.specs.Rows.{IsRow}
+use Rattle.checks.specs.declared.row.CheckedRow.{CheckedRow}
+use Rattle.checks.specs.CheckedRows.{row_of}
 use Rattle.record.specs.Judged.{Adds}
+use Rattle.record.specs.Audits.{opened}
+use Rattle.record.specs.Awaits.{Awaited}
+use Rattle.record.specs.declared.record.Record.{Record}
+use Rattle.record.specs.declared.audit.Audit.{Audit}
+use Rattle.record.specs.declared.audit.OpenRow as audit
 use Rattle.record.specs.Records.{rec_of}
-use Rattle.record.proofs.Views.{reduced_of}
 use Rattle.session.proofs.Own.{cut_record, own_cut_form, own_fine, own_pins_none, own_pinned_with}
-use Rattle.session.specs.Granted.{Granted}
+use Rattle.session.proofs.Rows.{is_row, awaits_free}
 use Rattle.law.specs.States as states
 use Rattle.law.specs.States.{State, seen, Call, Event, submits, answers, withdraws, witnesses, refused, permitted, answered, withdrew, witnessed, with_figure, after}
 use Rattle.law.specs.Law.{PinnedBy, Ready, Refuses, Due, refuses, grants, figures, takes_back, fills, permit_open, permits_spent, bad_row, discloses, not_open_to_answer, not_open_to_withdraw, bad_witness}
 use Rattle.law.specs.Sound.{Sound}
 use Rattle.law.proofs.Facts.{stays_sound_lem, rows_coded}
-use Rattle.session.specs.States.{number_of_row, open_of, state_of, Holds, Follows, StandsForSome}
-use Rattle.session.specs.declared.session.OpenRow.{OpenRow}
+use Rattle.session.specs.States.{open_permit, open_of, state_of, Holds, Follows, StandsForSome}
 use Rattle.session.specs.declared.session.Session.{Session}
-
--- a number that is not the open row's
-pub number_apart : (o : Option OpenRow) (k : ℕ) → ((p : OpenRow) → o ≡ Some p → p.permit ≢ k) → number_of_row o ≢ Some k
-number_apart None k other e = let z : ◌≡◌ {A = ℕ} 0 1 = cc in omega arith
-number_apart (Some p) k other e = let same : p.permit ≡ k = cc in other p refl same
 
 module _ {S V : Type 0} {GS : server.Ghosts S V} {GV : field.Ghosts V} (L : FieldLaws GV.model) (x : Session S V GS GV) where
   -- the call is refused in every state that the session stands for, and changes nothing
   pub refused_follows :
-      (c : Call) (r : Refusal) → ((given : List Figured) → Sound GV.model (state_of x given) → ReducedForm GV.model (length (GS.table x.server)) given (rec_of x.record) → Refuses GV.model (seen (state_of x given)) c r)
+      (c : Call) (r : Refusal) → ((given : List Figured) → Sound GV.model (state_of x given) → ReducedForm GV.model (length (GS.table x.server)) given (rec_of x.audit.«record») → Refuses GV.model (seen (state_of x given)) c r)
       → Follows x (refused c r) x
   refused_follows c r due σ H =
       let given = σ.given in
       let sound : Sound GV.model (state_of x given) = subst (Sound GV.model) H.is H.sound in
-      let form : ReducedForm GV.model (length (GS.table x.server)) given (rec_of x.record) =
-      subst (λ (T : List ℕ). ReducedForm GV.model (length T) given (rec_of x.record)) (ap (λ s. s.table) H.is) H.form in
+      let form : ReducedForm GV.model (length (GS.table x.server)) given (rec_of x.audit.«record») =
+      subst (λ (T : List ℕ). ReducedForm GV.model (length T) given (rec_of x.audit.«record»)) (ap (λ s. s.table) H.is) H.form in
       (subst (λ (s : State). Due GV.model s (refused c r)) (sym H.is) (refuses c r (due given sound form)), H)
 
   -- the event is due, and leads to the state of x', which has the rows of the record that x had
   pub event_follows :
       (x' : Session S V GS GV) (e : Event)
-      → ((given : List Figured) → Sound GV.model (state_of x given) → ReducedForm GV.model (length (GS.table x.server)) given (rec_of x.record)
+      → ((given : List Figured) → Sound GV.model (state_of x given) → ReducedForm GV.model (length (GS.table x.server)) given (rec_of x.audit.«record»)
       → Due GV.model (state_of x given) e × (after (state_of x given) e ≡ state_of x' (after (state_of x given) e).given)
-      × ReducedForm GV.model (length (after (state_of x given) e).table) (after (state_of x given) e).given (rec_of x'.record))
+      × ReducedForm GV.model (length (after (state_of x given) e).table) (after (state_of x given) e).given (rec_of x'.audit.«record»))
       → Follows x e x'
   event_follows x' e due σ H =
       let given = σ.given in
       let sound : Sound GV.model (state_of x given) = subst (Sound GV.model) H.is H.sound in
-      let form : ReducedForm GV.model (length (GS.table x.server)) given (rec_of x.record) =
-      subst (λ (T : List ℕ). ReducedForm GV.model (length T) given (rec_of x.record)) (ap (λ s. s.table) H.is) H.form in
+      let form : ReducedForm GV.model (length (GS.table x.server)) given (rec_of x.audit.«record») =
+      subst (λ (T : List ℕ). ReducedForm GV.model (length T) given (rec_of x.audit.«record»)) (ap (λ s. s.table) H.is) H.form in
       let (now, is, next) = due given sound form in
       subst (λ (s : State). Due GV.model s e × Holds (after s e) x') (sym H.is)
       (now, record { is = is; sound = stays_sound_lem GV.model L _ _ sound now; form = next })
 
   -- a number that is not the open permit's
-  not_this :
-      (k : ℕ) → ((p : OpenRow) → x.pending ≡ Some p → p.permit ≢ k) → (o : states.OpenRow)
-      → open_of x.pending ≡ Some o → o.permit ≢ k
-  not_this k other = go x.pending refl
+  not_this : (k : ℕ) → open_permit x ≢ Some k → (o : states.OpenRow) → open_of (opened x.audit) ≡ Some o → o.permit ≢ k
+  not_this k other = go (opened x.audit) other
     where
-      go : (q : Option OpenRow) → x.pending ≡ q → (o : states.OpenRow) → open_of q ≡ Some o → o.permit ≢ k
-      go None pending o e same = absurd (let z : ◌≡◌ {A = ℕ} 0 1 = cc in omega arith)
-      go (Some p) pending o e same =
-          let one : record { permit = p.permit; row = weights_of p.weights } ≡ o = cc in
-          other p pending (ap (λ (q : states.OpenRow). q.permit) one ∙ same)
+      go : (q : Option (ℕ × CheckedRow V GV)) → option_map (λ (p : ℕ × CheckedRow V GV). p.0) q ≢ Some k → (o : states.OpenRow) → open_of q ≡ Some o → o.permit ≢ k
+      go None apart o e same = let z : ◌≡◌ {A = ℕ} 0 1 = cc in omega arith
+      go (Some p) apart o e same =
+          let one : record { permit = p.0; row = row_of p.1 } ≡ o = cc in
+          apart (ap Some (ap (λ (q : states.OpenRow). q.permit) one ∙ same))
 
   -- withdrawals
-  pub withdrawal_refused : (k : ℕ) → ((p : OpenRow) → x.pending ≡ Some p → p.permit ≢ k) → Follows x (refused (withdraws k) NotTheOpenPermit) x
+  pub withdrawal_refused : (k : ℕ) → (open_permit x ≢ Some k) → Follows x (refused (withdraws k) NotTheOpenPermit) x
   withdrawal_refused k other = refused_follows (withdraws k) NotTheOpenPermit (λ given sound form. not_open_to_withdraw k (not_this k other))
 
-  pub withdrawn : (k : ℕ) (p : OpenRow) (x' : Session S V GS GV) → x.pending ≡ Some p → p.permit ≡ k
-      → ((given : List Figured) → after (state_of x given) (withdrew k) ≡ state_of x' given) → x'.record ≡ x.record → Follows x (withdrew k) x'
+  pub withdrawn : (k : ℕ) (p : ℕ × CheckedRow V GV) (x' : Session S V GS GV) → opened x.audit ≡ Some p → p.0 ≡ k
+      → ((given : List Figured) → after (state_of x given) (withdrew k) ≡ state_of x' given) → x'.audit.«record» ≡ x.audit.«record» → Follows x (withdrew k) x'
   withdrawn k p x' pending permit becomes same =
       event_follows x' (withdrew k)
       (λ given sound form. (
-        takes_back k (record { permit = p.permit; row = weights_of p.weights }) (record { open_is = ap open_of pending; permit_is = permit }),
+        takes_back k (record { permit = p.0; row = row_of p.1 }) (record { open_is = ap open_of pending; permit_is = permit }),
         becomes given,
-        subst (λ r. ReducedForm GV.model (length (GS.table x.server)) given (rec_of r)) (sym same) form,
+        subst (λ (r : Record V GV). ReducedForm GV.model (length (GS.table x.server)) given (rec_of r)) (sym same) form,
       ))
 
   -- answers
-  pub answer_refused : (k : ℕ) → ((p : OpenRow) → x.pending ≡ Some p → p.permit ≢ k) → Follows x (refused (answers k) NotTheOpenPermit) x
+  pub answer_refused : (k : ℕ) → (open_permit x ≢ Some k) → Follows x (refused (answers k) NotTheOpenPermit) x
   answer_refused k other = refused_follows (answers k) NotTheOpenPermit (λ given sound form. not_open_to_answer k (not_this k other))
 
-  pub answered_with : (k v : ℕ) (p : OpenRow) (x' : Session S V GS GV) → x.pending ≡ Some p → p.permit ≡ k
-      → v ≡ sum GV.model (length (GS.table x.server)) (weights_of p.weights) (value_at (GS.table x.server))
-      → Adds GV.model (length (GS.table x.server)) (rec_of x.record) (record { row = weights_of p.weights; figure = v }) (rec_of x'.record)
-      → ((given : List Figured) → after (state_of x given) (answered k v) ≡ state_of x' (with_figure (open_of x.pending) v given))
+  pub answered_with : (k v : ℕ) (p : ℕ × CheckedRow V GV) (x' : Session S V GS GV) → opened x.audit ≡ Some p → p.0 ≡ k
+      → v ≡ sum GV.model (length (GS.table x.server)) (row_of p.1) (value_at (GS.table x.server))
+      → Adds GV.model (length (GS.table x.server)) (rec_of x.audit.«record») (row_with (row_of p.1) v) (rec_of x'.audit.«record»)
+      → ((given : List Figured) → after (state_of x given) (answered k v) ≡ state_of x' (with_figure (open_of (opened x.audit)) v given))
       → Follows x (answered k v) x'
   answered_with k v p x' pending permit told adds becomes =
       let n = length (GS.table x.server) in
-      let o : states.OpenRow = record { permit = p.permit; row = weights_of p.weights } in
+      let o : states.OpenRow = record { permit = p.0; row = row_of p.1 } in
       event_follows x' (answered k v)
       (λ given sound form. (
         subst (λ (f : ℕ). Due GV.model (state_of x given) (answered k f)) (sym told)
             (figures k o (record { open_is = ap open_of pending; permit_is = permit })),
         becomes given,
-        subst (λ (q : Option OpenRow). ReducedForm GV.model n (with_figure (open_of q) v given) (rec_of x'.record)) (sym pending)
+        subst (λ (q : Option (ℕ × CheckedRow V GV)). ReducedForm GV.model n (with_figure (open_of q) v given) (rec_of x'.audit.«record»)) (sym pending)
             (adds given (rows_coded GV.model _ given sound.rows) form),
       ))
 
@@ -117,7 +116,7 @@ module _ {S V : Type 0} {GS : server.Ghosts S V} {GV : field.Ghosts V} (L : Fiel
   witness_refused i a l e fails = refused_follows (witnesses i a l) e (λ given sound form. bad_witness i a l e fails)
 
   pub witness_filled : (i a l : ℕ) (ws : List Element) → WitnessCheck GV.model (length (GS.table x.server)) i a l None → length ws ≡ length (GS.table x.server)
-      → Witness GV.model (length (GS.table x.server)) (rec_of x.record) i a (weights_of ws) → Follows x (witnessed i a l (codes ws)) x
+      → Witness GV.model (length (GS.table x.server)) (rec_of x.audit.«record») i a (weights_of ws) → Follows x (witnessed i a l (codes ws)) x
   witness_filled i a l ws passed long made =
       let n = length (GS.table x.server) in
       let read : (m : ℕ) → value_at (codes ws) m ≡ weights_of ws m = λ m. get_or-map (λ e. e.0) ws m (record { 0 = 0 }) in
@@ -126,7 +125,7 @@ module _ {S V : Type 0} {GS : server.Ghosts S V} {GV : field.Ghosts V} (L : Fiel
         fills i a l (codes ws) (record {
           passed = passed;
           long = length-map ws (λ e. e.0) ∙ long;
-          rec = rec_of x.record;
+          rec = rec_of x.audit.«record»;
           form = form;
           made = record { member = made.member; factor = made.factor; leads = made.leads; table = λ m b. read m ∙ made.table m b };
         }),
@@ -135,32 +134,32 @@ module _ {S V : Type 0} {GS : server.Ghosts S V} {GV : field.Ghosts V} (L : Fiel
       ))
 
   -- submissions
-  module _ (given : List Figured) (sound : Sound GV.model (state_of x given)) (form : ReducedForm GV.model (length (GS.table x.server)) given (rec_of x.record)) where
-    pinned_by : (ws : List Element) (i : ℕ) → PinnedWith GV.model (length (GS.table x.server)) (rec_of x.record) (weights_of ws) i → PinnedBy GV.model (seen (state_of x given)) (weights_of ws) i
-    pinned_by ws = by_form.pinned_by GV.model L _ given (rows_coded GV.model _ given sound.rows) (rec_of x.record) form (weights_of ws)
+  module _ (given : List Figured) (sound : Sound GV.model (state_of x given)) (form : ReducedForm GV.model (length (GS.table x.server)) given (rec_of x.audit.«record»)) where
+    pinned_by : (ws : List Element) (i : ℕ) → PinnedWith GV.model (length (GS.table x.server)) (rec_of x.audit.«record») (weights_of ws) i → PinnedBy GV.model (seen (state_of x given)) (weights_of ws) i
+    pinned_by ws = by_form.pinned_by GV.model L _ given (rows_coded GV.model _ given sound.rows) (rec_of x.audit.«record») form (weights_of ws)
 
-    pinned_with : (ws : List Element) (i : ℕ) → PinnedBy GV.model (seen (state_of x given)) (weights_of ws) i → PinnedWith GV.model (length (GS.table x.server)) (rec_of x.record) (weights_of ws) i
-    pinned_with ws = by_form.pinned_with GV.model L _ given (rows_coded GV.model _ given sound.rows) (rec_of x.record) form (weights_of ws)
+    pinned_with : (ws : List Element) (i : ℕ) → PinnedBy GV.model (seen (state_of x given)) (weights_of ws) i → PinnedWith GV.model (length (GS.table x.server)) (rec_of x.audit.«record») (weights_of ws) i
+    pinned_with ws = by_form.pinned_with GV.model L _ given (rows_coded GV.model _ given sound.rows) (rec_of x.audit.«record») form (weights_of ws)
 
   module _ (ws : List Element) where
-    pub submit_open : is_some x.pending ≡ true → Follows x (refused (submits ws) PermitOpen) x
-    submit_open some = refused_follows (submits ws) PermitOpen (λ given sound form. permit_open ws (λ none. go x.pending some none))
+    pub submit_open : is_some (opened x.audit) ≡ true → Follows x (refused (submits ws) PermitOpen) x
+    submit_open some = refused_follows (submits ws) PermitOpen (λ given sound form. permit_open ws (λ none. go (opened x.audit) some none))
       where
-        go : (o : Option OpenRow) → is_some o ≡ true → open_of o ≡ None → ⊥
+        go : (o : Option (ℕ × CheckedRow V GV)) → is_some o ≡ true → open_of o ≡ None → ⊥
         go None some none = clash some
         go (Some p) some none = let z : ◌≡◌ {A = ℕ} 0 1 = cc in omega arith
 
-    none_open : is_some x.pending ≡ false → open_of x.pending ≡ None
-    none_open none = go x.pending none
+    none_open : is_some (opened x.audit) ≡ false → open_of (opened x.audit) ≡ None
+    none_open none = go (opened x.audit) none
       where
-        go : (o : Option OpenRow) → is_some o ≡ false → open_of o ≡ None
+        go : (o : Option (ℕ × CheckedRow V GV)) → is_some o ≡ false → open_of o ≡ None
         go None e = refl
         go (Some p) e = absurd (clash (sym e))
 
-    pub submit_spent : is_some x.pending ≡ false → x.issued ≡ 65535 → Follows x (refused (submits ws) PermitsSpent) x
+    pub submit_spent : is_some (opened x.audit) ≡ false → x.issued ≡ 65535 → Follows x (refused (submits ws) PermitsSpent) x
     submit_spent none spent = refused_follows (submits ws) PermitsSpent (λ given sound form. permits_spent ws (none_open none) spent)
 
-    module _ (none : is_some x.pending ≡ false) (left : x.issued < 65535) where
+    module _ (none : is_some (opened x.audit) ≡ false) (left : x.issued < 65535) where
       ready : (given : List Figured) → Ready (seen (state_of x given))
       ready given = record { none_open = none_open none; left = left }
 
@@ -168,30 +167,41 @@ module _ {S V : Type 0} {GS : server.Ghosts S V} {GV : field.Ghosts V} (L : Fiel
       submit_bad e fails = refused_follows (submits ws) e (λ given sound form. bad_row ws e (ready given) fails)
 
       pub submit_disclosing : (i : ℕ) → RowCheck GV.model (length (GS.table x.server)) ws None
-          → Lowest (PinnedWith GV.model (length (GS.table x.server)) (rec_of x.record) (weights_of ws)) i
+          → Lowest (PinnedWith GV.model (length (GS.table x.server)) (rec_of x.audit.«record») (weights_of ws)) i
           → Follows x (refused (submits ws) (Discloses (OfMember (record { 0 = i })))) x
       submit_disclosing i passed low =
           refused_follows (submits ws) (Discloses (OfMember (record { 0 = i })))
           (λ given sound form. discloses ws i (ready given) passed (record { holds = pinned_by given sound form ws i low.holds; none_below = λ k b p. low.none_below k b (pinned_with given sound form ws k p) }))
 
       pub granted : (x' : Session S V GS GV) → RowCheck GV.model (length (GS.table x.server)) ws None
-          → ((i : ℕ) → PinnedWith GV.model (length (GS.table x.server)) (rec_of x.record) (weights_of ws) i → ⊥)
-          → ((given : List Figured) → after (state_of x given) (permitted ws (x.issued + 1)) ≡ state_of x' given) → x'.record ≡ x.record
+          → ((i : ℕ) → PinnedWith GV.model (length (GS.table x.server)) (rec_of x.audit.«record») (weights_of ws) i → ⊥)
+          → ((given : List Figured) → after (state_of x given) (permitted ws (x.issued + 1)) ≡ state_of x' given) → x'.audit.«record» ≡ x.audit.«record»
           → Follows x (permitted ws (x.issued + 1)) x'
       granted x' passed free becomes same =
           event_follows x' (permitted ws (x.issued + 1))
           (λ given sound form. (
             grants ws (record { ready = ready given; passed = passed; pins_nobody = λ i p. free i (pinned_with given sound form ws i p) }),
             becomes given,
-            subst (λ r. ReducedForm GV.model (length (GS.table x.server)) given (rec_of r)) (sym same) form,
+            subst (λ (r : Record V GV). ReducedForm GV.model (length (GS.table x.server)) given (rec_of r)) (sym same) form,
           ))
 
-opened : (M : FieldModel) (n : ℕ) (rec : List Pivoted) (p : Option OpenRow) → Granted M n rec p → (o : states.OpenRow) → open_of p ≡ Some o
-    → IsRow M n o.row × ((i : ℕ) → PinnedWith M n rec o.row i → ⊥)
-opened M n rec None facts o e = absurd (let z : ◌≡◌ {A = ℕ} 0 1 = cc in omega arith)
-opened M n rec (Some p) facts o e =
-    let one : record { permit = p.permit; row = weights_of p.weights } ≡ o = cc in
-    subst (λ (q : states.OpenRow). IsRow M n q.row × ((i : ℕ) → PinnedWith M n rec q.row i → ⊥)) one facts
+-- what the open row passed when its permit was issued
+module _ {V : Type 0} {GV : field.Ghosts V} (L : FieldLaws GV.model) (n : ℕ) (a : Audit V GV) (counted : a.«record».count ≡ n)
+    (whole : ForSome (opened a) (λ p. p.1.count ≡ n)) where
+  open_facts :
+      (p : Option (audit.OpenRow V GV)) → a.pending ≡ p → (o : states.OpenRow)
+      → open_of (option_map (λ (q : audit.OpenRow V GV). (q.permit, q.row)) p) ≡ Some o
+      → IsRow GV.model n o.row × ((i : ℕ) → PinnedWith GV.model n (rec_of a.«record») o.row i → ⊥)
+  open_facts None is o e = absurd (let z : ◌≡◌ {A = ℕ} 0 1 = cc in omega arith)
+  open_facts (Some p) is o e =
+      let one : record { permit = p.permit; row = row_of p.row } ≡ o = cc in
+      let here : opened a ≡ Some (p.permit, p.row) = ap (option_map (λ (q : audit.OpenRow V GV). (q.permit, q.row))) is in
+      let kept = subst (λ (q : Option (audit.OpenRow V GV)). Awaited GV.model a.«record».count (rec_of a.«record») q) is a.awaited in
+      let free : (i : ℕ) → PinnedWith GV.model a.«record».count (rec_of a.«record») (row_of p.row) i → ⊥ =
+      awaits_free L a.«record» p.row p.fresh kept in
+      subst (λ (q : states.OpenRow). IsRow GV.model n q.row × ((i : ℕ) → PinnedWith GV.model n (rec_of a.«record») q.row i → ⊥)) one
+      (is_row p.row n (whole (p.permit, p.row) here),
+      subst (λ (k : ℕ). (i : ℕ) → PinnedWith GV.model k (rec_of a.«record») (row_of p.row) i → ⊥) counted free)
 
 -- a session stands for the state in which the rows of its record were answered
 pub stands_for :
@@ -200,9 +210,10 @@ pub stands_for :
 stands_for {GS = GS} {GV = GV} L x table few =
     let M = GV.model in
     let n = length (GS.table x.server) in
-    let rec = rec_of x.record in
-    let R : Reduced M n rec = subst (λ (k : ℕ). Reduced M k rec) x.counted (reduced_of x.record) in
-    let none : NoneAlone n rec = subst (λ (k : ℕ). NoneAlone k rec) x.counted x.record.none_alone in
+    let r = x.audit.«record» in
+    let rec = rec_of r in
+    let R : Reduced M n rec = subst (λ (k : ℕ). Reduced M k rec) x.counted r.reduced in
+    let none : NoneAlone n rec = subst (λ (k : ℕ). NoneAlone k rec) x.counted r.none_alone in
     let given = all_figured (cut_record n rec) in (
       state_of x given,
       record {
@@ -212,7 +223,7 @@ stands_for {GS = GS} {GV = GV} L x table few =
           rows = own_fine M L n rec R;
           pins_nobody = own_pins_none M L n rec R none;
           few_permits = few;
-          open_facts = λ o e. let facts = opened M n rec x.pending x.granted o e in
+          open_facts = λ o e. let facts = open_facts L n x.audit x.counted x.whole_row x.audit.pending refl o e in
               record { row = facts.0; pins_nobody = λ i p. facts.1 i (own_pinned_with M L n rec R o.row i p) };
         };
         form = own_cut_form M L n rec R;

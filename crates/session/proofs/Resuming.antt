@@ -9,6 +9,7 @@ use Rattle.echelon.specs.Rows.{Figured}
 use Rattle.echelon.specs.Reduced.{ReducedForm}
 use Rattle.echelon.proofs.Unique.{one_form}
 use Rattle.record.specs.Records.{rec_of}
+use Rattle.record.specs.Audits.{opened}
 use Rattle.law.specs.States.{State, log_state}
 use Rattle.log_record.specs.Joins.{LogRecord, log_bytes}
 use Rattle.log_record.proofs.Answered.{answered_is_accepted_lem}
@@ -19,11 +20,11 @@ use Rattle.session.specs.States.{open_of, Holds}
 use Rattle.session.specs.Resumes.{issued_after_log, Resumes, Own}
 use Rattle.session.specs.declared.session.Session.{Session}
 
-module _ {S V : Type 0} {GS : server.Ghosts S V} {GV : field.Ghosts V} (L : FieldLaws GV.model) (x : Session S V GS GV) (none_open : x.pending ≡ None)
+module _ {S V : Type 0} {GS : server.Ghosts S V} {GV : field.Ghosts V} (L : FieldLaws GV.model) (x : Session S V GS GV) (none_open : opened x.audit ≡ None)
     (table : Table GV.model (GS.table x.server)) where
   pub resumed_state :
       (bs : List ℕ) (r : Option Refusal) (given : List Figured) → LogRecord GV.model (length (GS.table x.server)) bs r given
-      → ReducedForm GV.model (length (GS.table x.server)) given (rec_of x.record) → (r ≢ None → rec_of x.record ≡ [])
+      → ReducedForm GV.model (length (GS.table x.server)) given (rec_of x.audit.«record») → (r ≢ None → rec_of x.audit.«record» ≡ [])
       → x.issued ≡ issued_after_log r → Holds (log_state (GS.table x.server) r given) x
   resumed_state bs None given log form empty issued = record {
     is = ap₂ (λ o k. record { table = GS.table x.server; given = given; pending = open_of o; issued = k }) (sym none_open) (sym issued);
@@ -47,4 +48,4 @@ module _ {S V : Type 0} {GS : server.Ghosts S V} {GV : field.Ghosts V} (L : Fiel
       let here : Holds (log_state (GS.table x.server) None τ.given) x =
       subst (λ (all : List Figured). Holds (log_state (GS.table x.server) None all) x) equal
       (subst (λ (o : Option Refusal). Holds (log_state (GS.table x.server) o given) x) fine holds) in
-      (fine, here, λ rec form. one_form GV.model L n τ.given (rec_of x.record) rec here.form form)
+      (fine, here, λ rec form. one_form GV.model L n τ.given (rec_of x.audit.«record») rec here.form form)

@@ -1,85 +1,65 @@
-use Rattle.std.proofs.Common.{rules, ◌≡◌, ℕ, true, List, length, take, is_ok, Some, Option, None, sym, refl, ap, ◌∙◌, subst, arith}
+use Rattle.std.proofs.Common.{◌≡◌, ℕ, true, List, length, is_ok, sym, refl, ap, ◌∙◌, subst}
 use Rattle.std.proofs.lemmas.Result.{err_from_is_err_and}
-use Rattle.field.specs.Sums.{Vector, Codes, sum, weights_of}
-use Rattle.echelon.specs.Reduced.{PinnedWith}
-use Rattle.std.proofs.lemmas.List.{length-take-le}
+use Rattle.field.specs.Sums.{Vector, sum, weights_of}
 use Rattle.field.specs.declared.Element.{Element}
 use Rattle.server.specs.Tables.{value_at}
-use Rattle.echelon.specs.Rows.{Figured}
-use Rattle.checks.specs.Checks.{RowCheck, accepted}
-use Rattle.record.specs.Judged.{Admitted, Adds}
+use Rattle.echelon.specs.Rows.{row_with}
+use Rattle.checks.specs.CheckedRows.{row_of}
+use Rattle.record.specs.Judged.{Adds}
 use Rattle.record.specs.Records.{rec_of}
-use Rattle.session.specs.Granted.{Granted}
-use Rattle.session.specs.declared.session.OpenRow.{OpenRow}
-use Rattle.session.proofs.Admitted.{admit_succeeds}
-use Rattle.session.proofs.Padded.{cut_is}
-use Rattle.session.proofs.Followed.{number_apart, answer_refused, answered_with}
+use Rattle.record.specs.Audits.{opened}
+use Rattle.law.specs.States.{with_figure}
+use Rattle.session.specs.States.{open_of}
+use Rattle.session.proofs.Rows.{answered_ok, listed_is, closed_so}
+use Rattle.session.proofs.Followed.{answer_refused, answered_with}
 use Rattle.session.proofs.session.Session.answer_number.Goals as goal
-use Rattle.session.proofs.session.Session.answer_number.Goals.{After-admit}
+use Rattle.session.proofs.session.Session.answer_number.Goals.{After-answer}
 
 pub returns-in_err-row : goal.returns-in_err-row
 returns-in_err-row g c =
     let x = c.args.self.now in
     let p = err_from_is_err_and c.from_residual.result c.from_residual.ensures.1 in
-    let refused_so = c.in_err-row.ensures in
-    rw (p.1, p.2, refused_so.0)
+    let at = c.in_err-row.ensures in
+    rw (p.1, p.2, at.refused)
     (record {
       server = refl;
       issued = refl;
       refused = refl;
-      not_open = number_apart x.pending c.args.number refused_so.1;
-      law = answer_refused g.met.S.Over.Field.laws x c.args.number refused_so.1;
+      not_open = at.not_open;
+      law = answer_refused g.met.S.Over.Field.laws x c.args.number at.not_open;
     })
 
--- the open row was granted, over as many members as the table has
-granted : (g : _) (c : After-admit g) → Granted g.S.Over.Field.model (length (g.S.Server.table c.args.self.now.server)) (rec_of c.args.self.now.record) (Some c.in_ok-row.row)
-granted g c =
-    subst (λ (o : Option OpenRow). Granted g.S.Over.Field.model (length (g.S.Server.table c.args.self.now.server)) (rec_of c.args.self.now.record) o) c.in_ok-row.ensures.0
-    c.args.self.now.granted
-
-cut : (g : _) (c : After-admit g) → take c.count.result c.in_ok-row.row.weights ≡ take (length (g.S.Server.table c.args.self.now.server)) c.in_ok-row.row.weights
-cut g c =
-    let size : c.count.result ≡ length (g.S.Server.table c.args.self.now.server) = omega (arith, c.count.ensures, c.args.self.now.counted) in
-    ap (λ k. take k c.in_ok-row.row.weights) size
-
+-- the open row joins with its figure, or is fixed already
 went_in :
-    (g : _) (c : After-admit g)
-    → (is_ok c.admit.result ≡ true)
-    × Adds g.S.Over.Field.model (length (g.S.Server.table c.args.self.now.server)) (rec_of c.args.self.now.record)
-    (record { row = weights_of c.in_ok-row.row.weights; figure = c.row_sum-figure.result.0 }) (rec_of c.admit.new.self)
+    (g : _) (c : After-answer g)
+    → (is_ok c.answer.result ≡ true)
+    × Adds g.S.Over.Field.model (length (g.S.Server.table c.args.self.now.server)) (rec_of c.args.self.now.audit.«record»)
+    (row_with (row_of c.in_ok-row.row) c.row_sum-figure.result.0) (rec_of c.answer.new.self.«record»)
 went_in g c =
     let M = g.S.Over.Field.model in
     let x = c.args.self.now in
-    let n = length (g.S.Server.table x.server) in
-    let ws = c.in_ok-row.row.weights in
-    let facts = granted g c in
-    let figure = c.row_sum-figure.result.0 in
-    let whole : weights_of (take n ws) ≡ weights_of ws = cut_is ws n facts.0.none_past in
-    -- the whole open row joins, with its figure
-    let joins : Admitted M x.record.count (rec_of x.record) (take c.count.result ws) figure (rec_of c.admit.new.self) c.admit.result =
-    search (c.admit.ensures.admitted) in
-    let admitted =
-    subst (λ (k : ℕ). Admitted M k (rec_of x.record) (take n ws) figure (rec_of c.admit.new.self) c.admit.result) x.counted
-    (subst (λ (us : List Element). Admitted M x.record.count (rec_of x.record) us figure (rec_of c.admit.new.self) c.admit.result) (cut g c) joins) in
-    let back = sym whole in
-    let long : length (take n ws) ≡ n = length-take-le n ws (let sized : length ws ≡ 64 = search rules in omega (arith, sized, x.counted, x.record.members.1)) in
-    let passed : RowCheck M n (take n ws) None =
-    accepted long (subst (λ (w : Vector). Codes M n w) back facts.0.weights)
-    (λ none. facts.0.some_named (λ m h. ap (λ (w : Vector). w m) back ∙ none m (omega (arith, long)))) in
-    let (fine, adds) =
-    admit_succeeds M n (rec_of x.record) (take n ws) figure (rec_of c.admit.new.self) c.admit.result
-    admitted passed c.row_sum-figure.ensures.within (subst (λ (w : Vector). (i : ℕ) → PinnedWith M n (rec_of x.record) w i → ⊥) back facts.1) in
-    (fine, subst (λ (w : Vector). Adds M n (rec_of x.record) (record { row = w; figure = figure }) (rec_of c.admit.new.self)) whole adds)
+    let (fine, adds) = answered_ok M _ _ _ _ _ _ c.answer.ensures.answered (c.args.number, c.in_ok-row.row) c.in_ok-row.ensures.row c.row_sum-figure.ensures.within in
+    (fine, subst (λ (n : ℕ). Adds M n (rec_of x.audit.«record») (row_with (row_of c.in_ok-row.row) c.row_sum-figure.result.0) (rec_of c.answer.new.self.«record»)) x.counted adds)
 
 pub unwrap-requires : goal.unwrap-requires
-unwrap-requires g c = (went_in g (goal.at.unwrap-requires g c).After-admit).0
+unwrap-requires g c = (went_in g (goal.at.unwrap-requires g c).After-answer).0
 
 pub returns-clause-law : goal.returns-clause-law
 returns-clause-law g c =
+    let M = g.S.Over.Field.model in
     let x = c.args.self.now in
+    let T = g.S.Server.table x.server in
     let row = c.in_ok-row.row in
-    let here = (goal.at.returns-clause-law g c).After-admit in
-    let figure : c.row_sum-figure.result.0 ≡ sum g.S.Over.Field.model (length (g.S.Server.table x.server)) (weights_of row.weights) (value_at (g.S.Server.table x.server)) =
-    search (c.row_sum-figure.ensures.is) in
-    answered_with g.met.S.Over.Field.laws x c.args.number c.row_sum-figure.result.0 row _
-    c.in_ok-row.ensures.0 c.in_ok-row.ensures.1 figure (went_in g here).1 (λ given. refl)
+    let here = (goal.at.returns-clause-law g c).After-answer in
+    let done = went_in g here in
+    let figure : c.row_sum-figure.result.0 ≡ sum M (length T) (row_of row) (value_at T) =
+    c.row_sum-figure.ensures.is ∙ ap (λ (ws : List Element). sum M (length T) (weights_of ws) (value_at T)) c.weights.ensures.list
+    ∙ ap (λ (w : Vector). sum M (length T) w (value_at T)) (listed_is row) in
+    answered_with g.met.S.Over.Field.laws x c.args.number c.row_sum-figure.result.0 (c.args.number, row) _
+    c.in_ok-row.ensures.row refl figure done.1
+    (λ given. ap (λ o. record {
+      table = T;
+      given = with_figure (open_of (opened x.audit)) c.row_sum-figure.result.0 given;
+      pending = open_of o;
+      issued = x.issued;
+    }) (sym (closed_so c.answer.result _ done.0 c.answer.ensures.closed)))

@@ -1,131 +1,105 @@
-use Rattle.std.proofs.Common.{◌≡◌, ℕ, ◌+◌, ◌<◌, ◌≤◌, List, length, take, Some, None, sym, refl, ap, ◌∙◌, subst, arith}
+use Rattle.std.proofs.Common.{◌≡◌, ℕ, ◌+◌, ◌<◌, Bool, true, false, List, length, is_some, Some, None, Option, sym, refl, ap, ◌∙◌, subst, arith}
 use Rattle.std.proofs.lemmas.Result.{err_from_is_err_and}
 use Rattle.field.specs.Sums.{Vector, weights_of}
-use Rattle.field.specs.declared.Element.{Element}
-use Rattle.server.specs.Checks.{Lowest}
-use Rattle.checks.specs.Checks.{RowCheck}
+use Rattle.refusal.specs.declared.Refusal.TheVariants.{Discloses}
+use Rattle.refusal.specs.declared.Site.TheVariants.{OfMember}
+use Rattle.server.specs.Checks.{Count, Lowest}
 use Rattle.echelon.specs.Reduced.{PinnedWith}
-use Rattle.checks.specs.Rows.{IsRow}
-use Rattle.record.specs.Judged.{Judged}
+use Rattle.checks.specs.Checks.{RowCheck, RowMade}
+use Rattle.checks.specs.CheckedRows.{row_of}
 use Rattle.record.specs.Records.{rec_of}
-use Rattle.record.proofs.Views.{reduced_of}
-use Rattle.checks.proofs.Passed.{row_length_lem, passed_is_row}
-use Rattle.session.proofs.Admitted.{pinned_lowest}
+use Rattle.record.specs.Audits.{opened}
+use Rattle.law.specs.States.{submits, refused}
+use Rattle.session.specs.States.{open_of, Follows}
+use Rattle.session.specs.declared.session.Session.{Session}
+use Rattle.session.proofs.Rows.{made_check, same_session}
 use Rattle.session.proofs.Followed.{submit_open, submit_spent, submit_bad, submit_disclosing, granted}
-use Rattle.session.proofs.Steps.{judged-free_of}
-use Rattle.session.proofs.Padded.{padded_is}
 use Rattle.session.proofs.session.Session.submit_row.Goals as goal
-use Rattle.session.proofs.session.Session.submit_row.Goals.{After-padded}
+use Rattle.session.proofs.session.Session.submit_row.Goals.{After-is_some, After-count}
 
-pub returns-then-is_some : goal.returns-then-is_some
-returns-then-is_some g c =
-    let x = c.args.self.now in
-    record {
-      server = refl;
-      rows = tt;
-      opens = tt;
-      refused = refl;
-      law = submit_open g.met.S.Over.Field.laws x c.args.weights.now (sym c.is_some.ensures ∙ c.if-is_some.true);
-    }
+-- whether a row is open
+open_so : (g : _) (c : After-is_some g) (b : Bool) → c.is_some.result ≡ b → is_some (opened c.args.self.now.audit) ≡ b
+open_so g c b is = sym (ap is_some c.opened.ensures) ∙ sym c.is_some.ensures ∙ is
 
-pub returns-then-self : goal.returns-then-self
-returns-then-self g c =
-    let x = c.args.self.now in
-    record {
-      server = refl;
-      rows = tt;
-      opens = tt;
-      refused = refl;
-      law = submit_spent g.met.S.Over.Field.laws x c.args.weights.now (sym c.is_some.ensures ∙ c.if-is_some.false) c.if-self.true;
-    }
+-- the count of the record is that of the table
+size : (g : _) (c : After-count g) → c.count.result ≡ length (g.S.Server.table c.args.self.now.server)
+size g c = c.count.ensures ∙ ap (λ r. r.count) c.«record».ensures ∙ c.args.self.now.counted
 
-pub returns-in_err-i : goal.returns-in_err-i
-returns-in_err-i g c =
+pub returns-then-is_some-clause-law : goal.returns-then-is_some-clause-law
+returns-then-is_some-clause-law g c =
+    submit_open g.met.S.Over.Field.laws c.args.self.now c.args.weights.now
+    (open_so g (goal.at.returns-then-is_some-clause-law g c).After-is_some true c.if-is_some.true)
+
+pub returns-then-self-clause-law : goal.returns-then-self-clause-law
+returns-then-self-clause-law g c =
+    submit_spent g.met.S.Over.Field.laws c.args.self.now c.args.weights.now
+    (open_so g (goal.at.returns-then-self-clause-law g c).After-is_some false c.if-is_some.false) c.if-self.true
+
+pub returns-in_err-row-clause-law : goal.returns-in_err-row-clause-law
+returns-in_err-row-clause-law g c =
     let M = g.S.Over.Field.model in
     let x = c.args.self.now in
     let T = g.S.Server.table x.server in
     let ws = c.args.weights.now in
-    let e = c.in_err-i.field-0.0 in
+    let e = c.in_err-row.field-0.0 in
+    let here = goal.at.returns-in_err-row-clause-law g c in
     let left : x.issued < 65535 = let ne = c.if-self.false in omega arith in
-    let fails : RowCheck M (length T) ws (Some e) = subst (λ (n : ℕ). RowCheck M n ws (Some e)) x.counted c.in_err-i.ensures in
+    let count : Count (length T) = subst Count x.counted x.audit.«record».members in
+    let fails : RowCheck M (length T) ws (Some e) =
+    made_check M (length T) ws (Some e) count (subst (λ (n : ℕ). RowMade M n ws (Some e)) (size g here.After-count) c.in_err-row.ensures.made) in
     let p = err_from_is_err_and c.from_residual.result c.from_residual.ensures.1 in
-    rw (p.1, p.2)
-    (record {
-      server = refl;
-      rows = tt;
-      opens = tt;
-      refused = refl;
-      law = submit_bad g.met.S.Over.Field.laws x ws (sym c.is_some.ensures ∙ c.if-is_some.false) left e fails;
-    })
+    rw (p.1, p.2) (submit_bad g.met.S.Over.Field.laws x ws (open_so g here.After-is_some false c.if-is_some.false) left e fails)
 
-pub returns-in-Pinning-clause-law : goal.returns-in-Pinning-clause-law
-returns-in-Pinning-clause-law g c =
+pub returns-in-Err-clause-refused : goal.returns-in-Err-clause-refused
+returns-in-Err-clause-refused g c =
+    let x = c.args.self.now in
+    same_session _ _ g.S.Server g.S.Over.Field x.server x.issued c.open.new.self x.audit c.in-Err.ensures.refused _ _ x.counted x.whole_row
+
+pub returns-in-Err-clause-law : goal.returns-in-Err-clause-law
+returns-in-Err-clause-law g c =
     let M = g.S.Over.Field.model in
     let x = c.args.self.now in
     let T = g.S.Server.table x.server in
     let ws = c.args.weights.now in
+    let row = c.in_ok-row.row in
+    let i = c.in-Err.i.0 in
+    let here = goal.at.returns-in-Err-clause-law g c in
     let left : x.issued < 65535 = let ne = c.if-self.false in omega arith in
-    let judged = c.in_ok-i.ensures in
-    let passed : RowCheck M (length T) ws None = subst (λ (n : ℕ). RowCheck M n ws None) x.counted judged.0 in
-    let low : Lowest (PinnedWith M (length T) (rec_of x.record) (weights_of ws)) c.in-Pinning.i.0 =
-    subst (λ (n : ℕ). Lowest (PinnedWith M n (rec_of x.record) (weights_of ws)) c.in-Pinning.i.0) x.counted
-    (pinned_lowest M _ _ _ c.in-Pinning.i (subst (Judged M _ _ _) c.in-Pinning.is judged.1)) in
-    submit_disclosing g.met.S.Over.Field.laws x ws (sym c.is_some.ensures ∙ c.if-is_some.false) left c.in-Pinning.i.0 passed low
+    let count : Count (length T) = subst Count x.counted x.audit.«record».members in
+    let passed : RowCheck M (length T) ws None =
+    made_check M (length T) ws None count (subst (λ (n : ℕ). RowMade M n ws None) (size g here.After-count) c.in_ok-row.ensures.made) in
+    let weights : row_of row ≡ weights_of ws = c.in_ok-row.ensures.row in
+    let low : Lowest (PinnedWith M (length T) (rec_of x.audit.«record») (weights_of ws)) i =
+    subst (λ (w : Vector). Lowest (PinnedWith M (length T) (rec_of x.audit.«record») w) i) weights
+    (subst (λ (n : ℕ). Lowest (PinnedWith M n (rec_of x.audit.«record») (row_of row)) i) x.counted c.in-Err.ensures.pinned) in
+    let same = same_session _ _ g.S.Server g.S.Over.Field x.server x.issued c.open.new.self x.audit c.in-Err.ensures.refused _ _ x.counted x.whole_row in
+    subst (λ (y : Session g.row.S.Denot g.row.S-Over.Denot g.S.Server g.S.Over.Field). Follows x (refused (submits ws) (Discloses (OfMember (record { 0 = i })))) y) (sym same)
+    (submit_disclosing g.met.S.Over.Field.laws x ws (open_so g here.After-is_some false c.if-is_some.false) left i passed low)
 
--- what is known of a row that was judged free
-passed_row :
-    (g : _) (c : After-padded g)
-    → RowCheck g.S.Over.Field.model (length (g.S.Server.table c.args.self.now.server)) c.args.weights.now None
-passed_row g c =
-    subst (λ (n : ℕ). RowCheck g.S.Over.Field.model n c.args.weights.now None) c.args.self.now.counted c.in_ok-i.ensures.0
-
-free_row :
-    (g : _) (c : After-padded g) (i : ℕ)
-    → PinnedWith g.S.Over.Field.model (length (g.S.Server.table c.args.self.now.server)) (rec_of c.args.self.now.record) (weights_of c.args.weights.now) i → ⊥
-free_row g c =
-    let M = g.S.Over.Field.model in
-    let x = c.args.self.now in
-    let ws = c.args.weights.now in
-    subst (λ (n : ℕ). (i : ℕ) → PinnedWith M n (rec_of x.record) (weights_of ws) i → ⊥) x.counted
-    (judged-free_of M g.met.S.Over.Field.laws _ _ (reduced_of x.record) x.record.none_alone (weights_of ws) c.in_ok-i.field-0 c.in_ok-i.ensures.1 c.in_default.not-Pinning)
-
--- the 64 places are the row, and 0 past it
-whole_row : (g : _) (c : After-padded g) → weights_of c.padded.result ≡ weights_of c.args.weights.now
-whole_row g c =
-    let x = c.args.self.now in
-    let T = g.S.Server.table x.server in
-    let ws = c.args.weights.now in
-    let long = row_length_lem g.S.Over.Field.model (length T) ws (passed_row g c) in
-    let few : length ws ≤ 64 = omega (arith, long, x.counted, x.record.members.1) in
-    padded_is ws c.padded.result few c.padded.ensures.each c.padded.ensures.rest
-
-pub invariant_of-self : goal.invariant_of-self
-invariant_of-self g c =
-    let M = g.S.Over.Field.model in
-    let x = c.args.self.now in
-    let T = g.S.Server.table x.server in
-    let here = (goal.at.invariant_of-self g c).After-padded in
-    let same = sym (whole_row g here) in
-    record {
-      counted = x.counted;
-      granted = (
-        subst (λ (w : Vector). IsRow M (length T) w) same (passed_is_row M (length T) c.args.weights.now (passed_row g here)),
-        subst (λ (w : Vector). (i : ℕ) → PinnedWith M (length T) (rec_of x.record) w i → ⊥) same (free_row g here),
-      );
-    }
+pub returns-clause-opens : goal.returns-clause-opens
+returns-clause-opens g c = record {
+  row = c.in_ok-row.row;
+  is = c.in_default.ensures.opened;
+  weights = c.in_ok-row.ensures.row;
+  members = c.in_ok-row.ensures.count ∙ size g (goal.at.returns-clause-opens g c).After-count;
+}
 
 pub returns-clause-law : goal.returns-clause-law
 returns-clause-law g c =
+    let M = g.S.Over.Field.model in
     let x = c.args.self.now in
+    let T = g.S.Server.table x.server in
     let ws = c.args.weights.now in
+    let row = c.in_ok-row.row in
+    let here = goal.at.returns-clause-law g c in
     let left : x.issued < 65535 = let ne = c.if-self.false in omega arith in
-    let here = (goal.at.returns-clause-law g c).After-padded in
-    granted g.met.S.Over.Field.laws x ws (sym c.is_some.ensures ∙ c.if-is_some.false) left _
-    (passed_row g here) (free_row g here)
-    (λ given. ap (λ w. record {
-      table = g.S.Server.table x.server;
-      given = given;
-      pending = Some (record { permit = x.issued + 1; row = w });
-      issued = x.issued + 1;
-    }) (sym (whole_row g here)))
-    refl
+    let count : Count (length T) = subst Count x.counted x.audit.«record».members in
+    let passed : RowCheck M (length T) ws None =
+    made_check M (length T) ws None count (subst (λ (n : ℕ). RowMade M n ws None) (size g here.After-count) c.in_ok-row.ensures.made) in
+    let weights : row_of row ≡ weights_of ws = c.in_ok-row.ensures.row in
+    granted g.met.S.Over.Field.laws x ws (open_so g here.After-is_some false c.if-is_some.false) left _ passed
+    (subst (λ (w : Vector). (i : ℕ) → PinnedWith M (length T) (rec_of x.audit.«record») w i → ⊥) weights
+    (subst (λ (n : ℕ). (i : ℕ) → PinnedWith M n (rec_of x.audit.«record») (row_of row) i → ⊥) x.counted c.in_default.ensures.free))
+    (λ given. ap (λ w. record { table = T; given = given; pending = Some (record { permit = x.issued + 1; row = w }); issued = x.issued + 1 }) (sym weights)
+    ∙ ap (λ o. record { table = T; given = given; pending = open_of o; issued = x.issued + 1 }) (sym c.in_default.ensures.opened))
+    c.in_default.ensures.«record»

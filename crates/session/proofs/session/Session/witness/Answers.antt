@@ -1,15 +1,22 @@
+use Rattle.std.proofs.Common.{◌≡◌, length, Some, None, OnOk, IfErr, subst}
+use Rattle.field.specs.Sums.{weights_of}
+use Rattle.echelon.specs.Witness.{Witness}
+use Rattle.checks.specs.Checks.{WitnessCheck}
 use Rattle.record.specs.Records.{rec_of}
-use Rattle.session.proofs.Witnessed.{FilledFor, witnessed}
+use Rattle.record.specs.declared.record.Record.{Record}
+use Rattle.session.proofs.Witnessed.{witnessed}
 use Rattle.session.proofs.session.Session.witness.Goals as goal
 
-pub returns : goal.returns
-returns g c =
+pub returns-clause-law : goal.returns-clause-law
+returns-clause-law g c =
     let M = g.S.Over.Field.model in
     let x = c.args.self.now in
     let i = c.args.member.0 in
     let a = c.args.element.0 in
-    let filled : FilledFor M x.record.count (rec_of x.record) i a c.args.out.now c.witness.new.out c.witness.result = search (c.witness.ensures) in
-    let done =
-    witnessed g.met.S.Over.Field.laws x x.record.count i a c.args.out.now c.witness.new.out c.witness.result
-    x.counted c.witness.auto.out filled in
-    record { length = done.0; refused = done.1; law = done.2 }
+    let l = length c.args.out.now in
+    let r = c.witness.result in
+    let at : (P : Record g.row.S-Over.Denot g.S.Over.Field → Type 0) → P c.«record».result.now → P x.audit.«record» = λ P known. subst P c.«record».ensures known in
+    witnessed g.met.S.Over.Field.laws x i a c.args.out.now c.witness.new.out r c.witness.auto.out
+    (at (λ s. OnOk r (WitnessCheck M s.count i a l None)) c.witness.ensures.passed)
+    (at (λ s. IfErr r (λ e. WitnessCheck M s.count i a l (Some e))) c.witness.ensures.refused)
+    (at (λ s. OnOk r (Witness M s.count (rec_of s) i a (weights_of c.witness.new.out))) c.witness.ensures.witness)
