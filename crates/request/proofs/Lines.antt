@@ -9,6 +9,7 @@ use Rattle.field.specs.declared.Element.{Element}
 use Rattle.server.specs.Tables.{codes}
 use Rattle.law.specs.States as law
 use Rattle.law.specs.States.{witnesses, witnessed}
+use Rattle.checks.specs.declared.row.CheckedRow.{CheckedRow}
 use Rattle.law.specs.Law.{ends, goes_on}
 use Rattle.session.specs.States.{Holds, members_of, Leads}
 use Rattle.session.specs.declared.session.Session.{Session}
@@ -46,9 +47,9 @@ module _ {S V : Type 0} {GS : server.Ghosts S V} {GV : field.Ghosts V} (x x' : S
   row_in P w H known = subst (λ (T : List ℕ). P (row (length T) w)) (sym (ap (λ s. s.table) H.is)) known
 
   pub asked-line :
-      (w : Weights) (v : Element) → reading (limits GV.model (members_of x)) bytes ≡ Ok (Ask w)
-      → AsksRow x (row (members_of x) w) (Ok v) x' → CarriedOut x bytes (Ok (Answered w v)) x'
-  asked-line w v is leads σ H =
+      (w : Weights) (r : CheckedRow V GV) (v : Element) → reading (limits GV.model (members_of x)) bytes ≡ Ok (Ask w)
+      → AsksRow x (row (members_of x) w) (Ok (r, v)) x' → CarriedOut x bytes (Ok (Answered r v)) x'
+  asked-line w r v is leads σ H =
       let (es, τ, run, (asked, rows), last) = leads σ H in
       (es, τ, run, (served (Ask w) (figure v.0) es (read_in H is) (ask w (figure v.0) es (row_in (λ ws. Asked ws (figure v.0) es) w H asked)), rows), last)
 

@@ -5,15 +5,12 @@
 --   Tried ws a es            where it is submitted and withdrawn
 --   Served n q a es          the same for a request
 --   Handled M n line a es    the same for a line; a remark is told nothing
---   figured_with n w v       the row w, with the figure v, as a list of one
 -- That the events are due is said of each run of them, by the law. Assumes nothing.
 use Rattle.std.specs.Prelude.{◌≡◌, ℕ, List, [], ◌∷◌, take, Some, None, Ok, Err, Option}
 use Rattle.refusal.specs.declared.Refusal.{Refusal}
 use Rattle.refusal.specs.declared.Member.{Member}
 use Rattle.field.specs.Model.{FieldModel}
-use Rattle.field.specs.Sums.{weights_of}
 use Rattle.field.specs.declared.Element.{Element}
-use Rattle.echelon.specs.Rows.{Figured}
 use Rattle.law.specs.States.{Event, submits, witnesses, refused, permitted, answered, withdrew, witnessed}
 use Rattle.query.specs.declared.items.Weights.{Weights}
 use Rattle.query.specs.declared.faults.LineFault.{LineFault}
@@ -53,6 +50,3 @@ pub data Handled (M : FieldModel) (n : ℕ) (bytes : List ℕ) : Option Told →
   served :
       (q : Request) (a : Told) (es : List Event) → reading (limits M n) bytes ≡ Ok q → Served n q a es
       → Handled M n bytes (Some a) es
-
-abbrev pub figured_with : ℕ → Weights → ℕ → List Figured
-figured_with n w v = record { row = weights_of (row n w); figure = v } ∷ []

@@ -2,24 +2,31 @@
 ghost use Rattle.std.specs.Prelude.{◌≡◌, ℕ, ◌≤◌, IfOk, OnErr};
 ghost use Rattle.field.specs.Sums.{weights_of};
 ghost use Rattle.session.specs.States.{server_of, members_of};
-ghost use Rattle.request.specs.Carried.{AsksRow, TriesRow, MakesWitness, CarriedOut, ReadAs};
+ghost use Rattle.request.specs.Carried.{IsThatRow, AsksRow, TriesRow, MakesWitness, CarriedOut, ReadAs};
 
 use crate::faults::RequestFault;
 use crate::outcome::Outcome;
+use checks::CheckedRow;
 use field::Element;
 use query::{Request, read_line};
 use refusal::{Member, Refusal};
 use server::Server;
 use session::Session;
 
-// Submits a row, and answers it.
-fn ask<S: Server>(session: &mut Session<S>, row: &[Element]) -> Result<Element, Refusal>
+// Submits a row, and answers it. The row comes back as it was checked, to be logged.
+fn ask<S: Server>(
+    session: &mut Session<S>,
+    row: &[Element],
+) -> Result<(CheckedRow<S::Over>, Element), Refusal>
     ensures server { server_of session.new ≡ server_of session.old }
     ensures refused { OnErr result (session.new ≡ session.old) }
+    ensures row { IfOk result (λ a. IsThatRow a.0 row.now (members_of session.old)) }
     ensures law { AsksRow session.old row.now result session.new }
 {
     let mut permit = session.submit(row)?;
-    Ok(session.answer(&mut permit).unwrap())
+    let asked = session.opened().unwrap();
+    let figure = session.answer(&mut permit).unwrap();
+    Ok((asked, figure))
 }
 
 // Submits a row, and withdraws it.
@@ -48,7 +55,10 @@ fn witness_table<S: Server>(
 }
 
 // Reads a line, and makes the calls that it wants.
-pub fn carry_out<S: Server>(session: &mut Session<S>, line: &[u8]) -> Result<Outcome, RequestFault>
+pub fn carry_out<S: Server>(
+    session: &mut Session<S>,
+    line: &[u8],
+) -> Result<Outcome<S::Over>, RequestFault>
     ensures server { server_of session.new ≡ server_of session.old }
     ensures refused { OnErr result (session.new ≡ session.old) }
     ensures read { ReadAs S.Over.Field.model (members_of session.old) line.now result }
@@ -57,8 +67,8 @@ pub fn carry_out<S: Server>(session: &mut Session<S>, line: &[u8]) -> Result<Out
     let n = session.count();
     match read_line::<S::Over>(line, n)? {
         Request::Ask(weights) => {
-            let figure = ask(session, &weights.0[..n])?;
-            Ok(Outcome::Answered(weights, figure))
+            let (row, figure) = ask(session, &weights.0[..n])?;
+            Ok(Outcome::Answered(row, figure))
         }
         Request::Try(weights) => {
             attempt(session, &weights.0[..n])?;

@@ -3,7 +3,7 @@ use Rattle.std.proofs.lemmas.Result.{err_from_is_err_and}
 use Rattle.refusal.specs.declared.Refusal.{Refusal}
 use Rattle.law.specs.States.{withdrew}
 use Rattle.session.specs.States.{Follows, withdraw_event}
-use Rattle.request.proofs.Made.{not_refused, try_refused_so, try_granted_so}
+use Rattle.request.proofs.Made.{open_number, not_refused, try_refused_so, try_granted_so}
 use Rattle.request.proofs.calls.attempt.Goals as goal
 
 pub returns-in_err-permit : goal.returns-in_err-permit
@@ -18,7 +18,7 @@ returns-in_err-permit g c =
     })
 
 pub unwrap-requires : goal.unwrap-requires
-unwrap-requires g c = not_refused c.withdraw.result _ _ c.withdraw.ensures.not_open c.in_ok-permit.ensures.opens
+unwrap-requires g c = not_refused c.withdraw.result _ _ c.withdraw.ensures.not_open (open_number c.submit.new.self _ c.args.row.now c.in_ok-permit.ensures.opens)
 
 pub returns-clause-law : goal.returns-clause-law
 returns-clause-law g c =

@@ -2,7 +2,7 @@ use Rattle.std.proofs.Common.{◌≡◌, ℕ, length, take, Ok, Err, sym, refl, 
 use Rattle.std.proofs.lemmas.Result.{err_from_is_err_and}
 use Rattle.session.specs.States.{members_of}
 use Rattle.query.specs.Lines.{limits, reading}
-use Rattle.request.specs.Carried.{AsksRow, TriesRow, MakesWitness}
+use Rattle.request.specs.Carried.{IsThatRow, AsksRow, TriesRow, MakesWitness}
 use Rattle.request.proofs.Lines.{read_as, remark-line, faulty-line, asked-line, ask_refused-line, tried-line, try_refused-line, witness-line, witness_refused-line}
 use Rattle.request.proofs.calls.carry_out.Goals as goal
 
@@ -23,34 +23,41 @@ returns-in-Remark g c =
     let is = read_as g.S.Over.Field.model line c.count-n.ensures.members c.in_ok-weights.ensures.is c.in-Remark.is in
     record { server = refl; refused = tt; read = is; law = remark-line x x line is }
 
-pub returns-in_err-figure-in-Ask : goal.returns-in_err-figure-in-Ask
-returns-in_err-figure-in-Ask g c =
+pub returns-in_err-row-in-Ask : goal.returns-in_err-row-in-Ask
+returns-in_err-row-in-Ask g c =
     let x = c.args.session.now in
     let x' = c.ask.new.session in
     let line = c.args.line.now in
     let w = c.in-Ask.weights in
-    let e = c.in_err-figure-in-Ask.field-0.0 in
+    let e = c.in_err-row-in-Ask.field-0.0 in
     let is = read_as g.S.Over.Field.model line c.count-n.ensures.members c.in_ok-weights.ensures.is c.in-Ask.is in
     let size : c.count-n.result ≡ members_of x = omega (arith, c.count-n.ensures.members) in
-    let at = c.in_err-figure-in-Ask.ensures in
+    let at = c.in_err-row-in-Ask.ensures in
     let asked : AsksRow x (take c.count-n.result w.0) (Err e) x' = search (at.law) in
     let leads = subst (λ (k : ℕ). AsksRow x (take k w.0) (Err e) x') size asked in
-    let p = err_from_is_err_and c.from_residual-in_err-figure-in-Ask.result c.from_residual-in_err-figure-in-Ask.ensures.1 in
+    let p = err_from_is_err_and c.from_residual-in_err-row-in-Ask.result c.from_residual-in_err-row-in-Ask.ensures.1 in
     rw (p.1, p.2) (record { server = at.server; refused = at.refused; read = (_, is); law = ask_refused-line x x' line w e is leads })
 
-pub returns-in_ok-figure-in-Ask : goal.returns-in_ok-figure-in-Ask
-returns-in_ok-figure-in-Ask g c =
+pub returns-in_ok-row-in-Ask : goal.returns-in_ok-row-in-Ask
+returns-in_ok-row-in-Ask g c =
     let x = c.args.session.now in
     let x' = c.ask.new.session in
     let line = c.args.line.now in
     let w = c.in-Ask.weights in
-    let v = c.in_ok-figure-in-Ask.figure in
+    let r = c.in_ok-row-in-Ask.row in
+    let v = c.in_ok-row-in-Ask.figure in
     let is = read_as g.S.Over.Field.model line c.count-n.ensures.members c.in_ok-weights.ensures.is c.in-Ask.is in
     let size : c.count-n.result ≡ members_of x = omega (arith, c.count-n.ensures.members) in
-    let at = c.in_ok-figure-in-Ask.ensures in
-    let asked : AsksRow x (take c.count-n.result w.0) (Ok v) x' = search (at.law) in
-    let leads = subst (λ (k : ℕ). AsksRow x (take k w.0) (Ok v) x') size asked in
-    record { server = at.server; refused = tt; read = is; law = asked-line x x' line w v is leads }
+    let at = c.in_ok-row-in-Ask.ensures in
+    let asked : AsksRow x (take c.count-n.result w.0) (Ok (r, v)) x' = search (at.law) in
+    let leads = subst (λ (k : ℕ). AsksRow x (take k w.0) (Ok (r, v)) x') size asked in
+    let that : IsThatRow r (take c.count-n.result w.0) (members_of x) = search (at.row) in
+    record {
+      server = at.server;
+      refused = tt;
+      read = (w, is, subst (λ (k : ℕ). IsThatRow r (take k w.0) (members_of x)) size that);
+      law = asked-line x x' line w r v is leads;
+    }
 
 pub returns-in_err-attempt-in-Try : goal.returns-in_err-attempt-in-Try
 returns-in_err-attempt-in-Try g c =
