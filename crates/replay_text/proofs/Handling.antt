@@ -9,8 +9,8 @@ use Rattle.buffer.specs.Buffers.{Put}
 use Rattle.echelon.specs.Rows.{Figured}
 use Rattle.server.specs.Checks.{Count}
 use Rattle.server.specs.Tables.{Table}
-use Rattle.law.specs.States.{State, Event, answered_by}
-use Rattle.session.specs.States.{Holds, StandsForSome, table_of, members_of}
+use Rattle.law.specs.States.{Event, answered_by}
+use Rattle.session.specs.States.{StandsForSome, table_of, members_of}
 use Rattle.session.specs.declared.session.Session.{Session}
 use Rattle.log_record.specs.Joins.{rows_bytes}
 use Rattle.answer_text.specs.AnswerLines.{Told, Short}

@@ -74,7 +74,7 @@ pub(crate) fn handle_line<S: Server>(
     ensures done { LineDone session.old number line.now answers.old log.old session.new answers.new log.new result }
 {
     let n = session.count();
-    // of a state that it stands for the law says that what is told is short
+    // By the law of a state that it stands for, what is told is short.
     session.stands();
     let came = carry_out(session, line);
     Used {
