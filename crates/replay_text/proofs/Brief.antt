@@ -35,7 +35,7 @@ use Rattle.request.specs.Requests.{row, Asked, ask_refused, ask_answered, Tried,
 use Rattle.answer_text.specs.AnswerLines.{Told, figure, table, refused, Short}
 use Rattle.replay_text.proofs.Rooms.{row_fits}
 
--- what a line has of an event of its calls, over n members
+-- what the law says of an event over n members, as far as a line needs it
 abbrev pub Fine : FieldModel → ℕ → Event → Type 0
 Fine M n (law.refused c e) = Short (refused e)
 Fine M n (permitted ws k) = RowCheck M n ws None

@@ -1,20 +1,18 @@
--- A line carried out on a session: what it is told fits the room that is left, and what it has answered can be logged.
--- Assumes nothing.
-use Rattle.std.proofs.Common.{◌≡◌, ℕ, ◌<◌, ◌≤◌, List, length, Some, None, Ok, Err, Option, Result, IfSome, sym, refl, ap, subst, arith}
+-- A line carried out on a session: what it is told is short, and the row that it has answered can be logged. Assumes nothing.
+use Rattle.std.proofs.Common.{◌≡◌, ℕ, ◌≤◌, List, length, Ok, Err, Result, IfSome, sym, refl, ap, subst}
 use Rattle.std.specs.List.{AllByRecursion}
 use Rattle.field.specs.declared.Field as field
 use Rattle.server.specs.declared.Server as server
 use Rattle.field.specs.Model.{FieldModel, FieldLaws}
 use Rattle.buffer.specs.Buffers.{Put}
-use Rattle.echelon.specs.Rows.{Figured}
 use Rattle.server.specs.Checks.{Count}
 use Rattle.server.specs.Tables.{Table}
+use Rattle.echelon.specs.Rows.{Figured}
 use Rattle.law.specs.States.{Event, answered_by}
 use Rattle.session.specs.States.{StandsForSome, table_of, members_of}
 use Rattle.session.specs.declared.session.Session.{Session}
 use Rattle.log_record.specs.Joins.{rows_bytes}
-use Rattle.answer_text.specs.AnswerLines.{Told, Short}
-use Rattle.answer_text.proofs.Texts.{lines_fit}
+use Rattle.answer_text.specs.AnswerLines.{Short}
 use Rattle.request.specs.Requests.{Handled}
 use Rattle.request.specs.Carried.{outcome_told, outcome_rows, CarriedOut, ReadAs}
 use Rattle.request.specs.declared.faults.RequestFault.{RequestFault}
@@ -24,10 +22,6 @@ use Rattle.replay_text.specs.declared.lines.Used.{Used}
 use Rattle.replay_text.specs.Replays.{printed}
 use Rattle.replay_text.specs.Handling.{Loggable, LineDone}
 use Rattle.replay_text.proofs.Brief.{Fine, each_fine, handled_brief, answered_loggable}
-
-pub brief_fits : (k : ℕ) (o : Option Told) → k < 100000 → IfSome o Short → length (printed k o) ≤ 392
-brief_fits k None small short = omega arith
-brief_fits k (Some a) small short = lines_fit 392 (omega arith) k a small short
 
 -- what was read as a row, and answered, can be logged
 loggable_so :
