@@ -1,20 +1,22 @@
--- Every reply that is due is short enough to be printed, and every row answered can be logged. Assumes nothing.
-use Rattle.std.proofs.Common.{◌≡◌, ℕ, ◌<◌, ◌≤◌, List, Some, None, Ok, Option, refl, subst, arith}
+-- What a line is told is short, and a row that it has answered can be logged: both by the law. Assumes nothing.
+use Rattle.std.proofs.Common.{◌≡◌, ℕ, ◌<◌, ◌≤◌, List, length, Some, None, Ok, Option, IfSome, refl, ap, ◌∙◌, subst, arith}
+use Rattle.std.specs.List.{AllByRecursion}
 use Rattle.refusal.specs.declared.Refusal.{Refusal}
 use Rattle.refusal.specs.Numbered.{number}
 use Rattle.field.specs.Model.{FieldModel, FieldLaws}
-use Rattle.field.specs.Sums.{Vector, Codes, sum, weights_of}
+use Rattle.field.specs.Sums.{weights_of}
 use Rattle.field.specs.declared.Element.{Element}
 use Rattle.server.specs.Checks.{Count}
 use Rattle.server.specs.Tables.{value_at}
-use Rattle.echelon.specs.Rows.{Figured}
+use Rattle.echelon.proofs.Codes.{sum_below}
 use Rattle.echelon.proofs.Tables.{witness-fits}
 use Rattle.checks.specs.Checks as checks
 use Rattle.checks.specs.Checks.{RowCheck, WitnessCheck}
-use Rattle.history.specs.Events.{Reply, Event, Start, Call, submits, answers, permits, gives, refused}
-use Rattle.history.specs.Law.{Due, permit_open, permits_spent, bad_row, discloses, granted, answer_refused, answered_with, withdrawal_refused, withdrawn, witness_refused, witness_filled, Lawful, goes_on}
-use Rattle.history.specs.Theorems.{Sane}
-use Rattle.history.proofs.Facts.{after, figure_code}
+use Rattle.law.specs.States as law
+use Rattle.law.specs.States.{State, seen, Seen, Event, permitted, answered, withdrew, witnessed, after}
+use Rattle.law.specs.Law.{Refuses, permit_open, permits_spent, bad_row, discloses, not_open_to_answer, not_open_to_withdraw, bad_witness, Due, refuses, grants, figures, takes_back, fills, Lawful, ends, goes_on}
+use Rattle.law.specs.Sound.{Sound}
+use Rattle.law.proofs.Facts.{stays_sound_lem, same_table}
 use Rattle.query.specs.declared.items.Weights.{Weights}
 use Rattle.query.specs.declared.faults.NumberFault.{NumberFault}
 use Rattle.query.specs.declared.faults.NumberFault.TheVariants.{NoDigit, LeadingZero, TooManyDigits, OutOfRange}
@@ -29,17 +31,20 @@ use Rattle.query.specs.Refusals.{number_refusal, item_refusal, line_refusal}
 use Rattle.query.proofs.Places.{within}
 use Rattle.answer_log.specs.Writes as writes
 use Rattle.answer_log.specs.Writes.{RowWrite}
-use Rattle.request.specs.Requests.{event, row, Asked, ask_refused, ask_answered, try_refused, try_withdrawn, Served, ask, try, witness, Handled, remark, faulty, served}
-use Rattle.answer_text.specs.AnswerLines.{Short}
+use Rattle.request.specs.Requests.{row, Asked, ask_refused, ask_answered, Tried, try_refused, try_granted, Served, ask, try, witness_refused, witness_filled, Handled, remark, faulty, served}
+use Rattle.answer_text.specs.AnswerLines.{Told, figure, table, refused, Short}
 use Rattle.replay_text.proofs.Rooms.{row_fits}
 
-abbrev ShortRefusal : Option Refusal → Type 0
-ShortRefusal None = Unit {0}
-ShortRefusal (Some e) = Short (refused e)
+-- what the law says of an event over n members, as far as a line needs it
+abbrev pub Fine : FieldModel → ℕ → Event → Type 0
+Fine M n (law.refused c e) = Short (refused e)
+Fine M n (permitted ws k) = RowCheck M n ws None
+Fine M n (answered k v) = v < M.size
+Fine M n (withdrew k) = Unit {0}
+Fine M n (witnessed i a l w) = Short (table w)
 
-abbrev pub ShortReply : Option Reply → Type 0
-ShortReply None = Unit {0}
-ShortReply (Some r) = Short r
+abbrev ShortRefusal : Option Refusal → Type 0
+ShortRefusal o = IfSome o (λ e. Short (refused e))
 
 row_brief : (M : FieldModel) (n : ℕ) (ws : List Element) (o : Option Refusal) → n ≤ 64 → RowCheck M n ws o → ShortRefusal o
 row_brief M n ws o few (checks.wrong_length p) = (omega arith, omega arith)
@@ -55,6 +60,38 @@ witness_brief M n i a k o (checks.accepted p q d) = tt
 
 witness_inside : (M : FieldModel) (n i a k : ℕ) → WitnessCheck M n i a k None → (i < n) × (a < M.size)
 witness_inside M n i a k (checks.accepted p q d) = (p, q)
+
+refusal_brief : (M : FieldModel) (v : Seen) (c : law.Call) (e : Refusal) → v.count ≤ 64 → Refuses M v c e → Short (refused e)
+refusal_brief M v c e few (permit_open ws p) = (omega arith, omega arith)
+refusal_brief M v c e few (permits_spent ws p q) = (omega arith, omega arith)
+refusal_brief M v c e few (bad_row ws r ready check) = row_brief M v.count ws (Some r) few check
+refusal_brief M v c e few (discloses ws i ready check low) = let b = low.holds.0 in (omega arith, omega (arith, b, few))
+refusal_brief M v c e few (not_open_to_answer k other) = (omega arith, omega arith)
+refusal_brief M v c e few (not_open_to_withdraw k other) = (omega arith, omega arith)
+refusal_brief M v c e few (bad_witness i a l r check) = witness_brief M v.count i a l (Some r) check
+
+module _ {M : FieldModel} (L : FieldLaws M) where
+  due_fine : (σ : State) (e : Event) → Sound M σ → Due M σ e → Fine M (length σ.table) e
+  due_fine σ e sound (refuses c r refusal) = refusal_brief M (seen σ) c r sound.table.few refusal
+  due_fine σ e sound (grants ws g) = g.passed
+  due_fine σ e sound (figures k o is) =
+      sum_below M L (length σ.table) o.row (value_at σ.table) (sound.open_facts o is.open_is).row.weights sound.table.elements
+  due_fine σ e sound (takes_back k o is) = tt
+  due_fine σ e sound (fills i a l w made) =
+      let n = length σ.table in
+      let inside = witness_inside M n i a l made.passed in
+      let codes = (witness-fits M L n made.rec made.form.reduced i a inside.0 inside.1 (value_at w) made.made).0 in
+      let bound = L.size_bound in
+      let few = sound.table.few in
+      let long = made.long in
+      (omega arith, λ m b. let code = codes m (omega arith) in omega arith)
+
+  pub each_fine : (n : ℕ) {σ τ : State} {es : List Event} → length σ.table ≡ n → Sound M σ → Lawful M σ es τ → AllByRecursion (Fine M n) es
+  each_fine n size sound ends = tt
+  each_fine n {σ} size sound (goes_on {e = e} due more) = (
+    subst (λ (k : ℕ). Fine M k e) size (due_fine σ e sound due),
+    each_fine n (ap length (same_table σ e) ∙ size) (stays_sound_lem M L σ e sound due) more,
+  )
 
 -- the number of a fault's refusal has two digits
 number_small : (f : NumberFault) → number (number_refusal f) < 100000
@@ -74,88 +111,56 @@ fault_small NoKind = omega arith
 fault_small (Item f) = item_small f
 fault_small (NotEnded p) = omega arith
 
--- only a permit that is issued has a row that passed its checks
-granted-row : (M : FieldModel) (n : ℕ) (t : Vector) (s : Start) (h : List Event) (ws : List Element) (r : Reply) (k : ℕ) → Due M n t s h (submits ws) r → r ≡ permits k → RowCheck M n ws None
-granted-row M n t s h ws r k (permit_open v p) is = absurd (let z : ◌≡◌ {A = ℕ} 0 1 = cc in omega arith)
-granted-row M n t s h ws r k (permits_spent v p q) is = absurd (let z : ◌≡◌ {A = ℕ} 0 1 = cc in omega arith)
-granted-row M n t s h ws r k (bad_row v e ready check) is = absurd (let z : ◌≡◌ {A = ℕ} 0 1 = cc in omega arith)
-granted-row M n t s h ws r k (discloses v i ready check low) is = absurd (let z : ◌≡◌ {A = ℕ} 0 1 = cc in omega arith)
-granted-row M n t s h ws r k (granted v ready check none) is = check
+module _ (M : FieldModel) (L : FieldLaws M) (n : ℕ) where
+  asked_brief : (ws : List Element) (a : Told) (es : List Event) → Asked ws a es → AllByRecursion (Fine M n) es → Short a
+  asked_brief ws a es (ask_refused e) fine = fine.0
+  asked_brief ws a es (ask_answered k v) fine = let code = fine.1.0 in let bound = L.size_bound in omega arith
 
-module _ (M : FieldModel) (L : FieldLaws M) (n : ℕ) (few : n ≤ 64) (t : Vector) (ct : Codes M n t) (s : Start) (sane : Sane M n s) where
-  figure-below : (h : List Event) → Lawful M n t s h → (k v : ℕ) (r : Reply) → Due M n t s h (answers k) r → r ≡ gives v → v < M.size
-  figure-below h lawful k v r (answer_refused j not) is = absurd (let z : ◌≡◌ {A = ℕ} 0 1 = cc in omega arith)
-  figure-below h lawful k v r (answered_with j o at same) is =
-      let known = after M L n t ct s sane h lawful in
-      let code = figure_code M L n t ct s o _ (known.open_facts o at) in
-      let value : sum M n (weights_of o.weights) t ≡ v = cc in subst (λ (x : ℕ). x < M.size) value code
+  tried_brief : (ws : List Element) (a : Told) (es : List Event) → Tried ws a es → AllByRecursion (Fine M n) es → Short a
+  tried_brief ws a es (try_refused e) fine = fine.0
+  tried_brief ws a es (try_granted k) fine = tt
 
-  pub due_brief : (h : List Event) → Lawful M n t s h → (c : Call) (r : Reply) → Due M n t s h c r → Short r
-  due_brief h lawful c r (permit_open ws p) = (omega arith, omega arith)
-  due_brief h lawful c r (permits_spent ws p q) = (omega arith, omega arith)
-  due_brief h lawful c r (bad_row ws e ready check) = row_brief M n ws (Some e) few check
-  due_brief h lawful c r (discloses ws i ready check low) = let b = low.holds.0 in (omega arith, omega (arith, b, few))
-  due_brief h lawful c r (granted ws ready check none) = tt
-  due_brief h lawful c r (answer_refused k not) = (omega arith, omega arith)
-  due_brief h lawful c r (answered_with k o is same) =
-      let below = figure-below h lawful k _ _ (answered_with k o is same) refl in
-      let bound = L.size_bound in omega (arith, below, bound)
-  due_brief h lawful c r (withdrawal_refused k not) = (omega arith, omega arith)
-  due_brief h lawful c r (withdrawn k o is same) = tt
-  due_brief h lawful c r (witness_refused i a l e check) = witness_brief M n i a l (Some e) check
-  due_brief h lawful c r (witness_filled i a l rec w check form len wit) =
-      let inside = witness_inside M n i a l check in
-      let codes = (witness-fits M L n rec form.reduced i a inside.0 inside.1 (value_at w) wit).0 in
-      let bound = L.size_bound in
-      (omega (arith, len, few), λ m b. let code = codes m (omega (arith, b, len)) in omega (arith, code, bound))
+  served_brief : (q : Request) (a : Told) (es : List Event) → Served n q a es → AllByRecursion (Fine M n) es → Short a
+  served_brief q a es (ask w b ds asked) fine = asked_brief (row n w) a es asked fine
+  served_brief q a es (try w b ds tried) fine = tried_brief (row n w) a es tried fine
+  served_brief q a es (witness_refused i b e) fine = fine.0
+  served_brief q a es (witness_filled i b w) fine = fine.0
 
-  served_brief : (h : List Event) → Lawful M n t s h → (q : Request) (r : Reply) (h' : List Event) → Served M n t s h q r h' → Short r
-  served_brief h lawful q r h' (ask w p k (ask_refused e due)) = due_brief h lawful _ _ due
-  served_brief h lawful q r h' (ask w p k (ask_answered j v due then)) =
-      due_brief _ (goes_on h (event _ (permits j)) lawful due) _ _ then
-  served_brief h lawful q r h' (try w p k (try_refused e due)) = due_brief h lawful _ _ due
-  served_brief h lawful q r h' (try w p k (try_withdrawn j due then)) = tt
-  served_brief h lawful q r h' (witness i a p due) = due_brief h lawful _ _ due
-
-  pub handled_brief :
-      (h : List Event) → Lawful M n t s h → (line : List ℕ) (o : Option Reply) (rows : List Figured) (h' : List Event)
-      → Handled M n t s h line o rows h' → ShortReply o
-  handled_brief h lawful line o rows h' (remark is) = tt
-  handled_brief h lawful line o rows h' (faulty f is) =
+  pub handled_brief : (line : List ℕ) (o : Option Told) (es : List Event) → Handled M n line o es → AllByRecursion (Fine M n) es → IfSome o Short
+  handled_brief line o es (remark is) fine = tt
+  handled_brief line o es (faulty f is) fine =
       let place = (within (limits M n) line _ refl f is).1 in (fault_small f, omega (arith, place))
-  handled_brief h lawful line o rows h' (served q r k is by) = served_brief h lawful q r k by
+  handled_brief line o es (served q a ds is by) fine = served_brief q a es by fine
 
   -- a row that was answered passed its checks, and its figure is an element
-  asked_fine :
-      (h : List Event) → Lawful M n t s h → (ws : List Element) (r : Reply) (h' : List Event) (v : ℕ) → Asked M n t s h ws r h' → r ≡ gives v
+  asked_passed :
+      (ws : List Element) (a : Told) (es : List Event) (v : ℕ) → Asked ws a es → a ≡ figure v → AllByRecursion (Fine M n) es
       → RowCheck M n ws None × (v < M.size)
-  asked_fine h lawful ws r h' v (ask_refused e due) is = absurd (let z : ◌≡◌ {A = ℕ} 0 1 = cc in omega arith)
-  asked_fine h lawful ws r h' v (ask_answered k f due then) is =
-      (granted-row M n t s h ws _ k due refl, figure-below _ (goes_on h (event (submits ws) (permits k)) lawful due) k v _ then is)
+  asked_passed ws a es v (ask_refused e) is fine = absurd (let z : ◌≡◌ {A = ℕ} 0 1 = cc in omega arith)
+  asked_passed ws a es v (ask_answered k f) is fine = let same : f ≡ v = cc in (fine.0, subst (λ (x : ℕ). x < M.size) same fine.1.0)
 
-  served_fine :
-      (h : List Event) → Lawful M n t s h → (q : Request) (r : Reply) (h' : List Event) (w : Weights) (v : ℕ) → Served M n t s h q r h'
-      → q ≡ Ask w → r ≡ gives v → RowCheck M n (row n w) None × (v < M.size)
-  served_fine h lawful q r h' w v (ask u p k asked) is gave =
-      let same : u ≡ w = cc in subst (λ (x : Weights). RowCheck M n (row n x) None × (v < M.size)) same (asked_fine h lawful (row n u) p k v asked gave)
-  served_fine h lawful q r h' w v (try u p k tried) is gave = absurd (let z : ◌≡◌ {A = ℕ} 0 1 = cc in omega arith)
-  served_fine h lawful q r h' w v (witness i a p due) is gave = absurd (let z : ◌≡◌ {A = ℕ} 0 1 = cc in omega arith)
-
-  handled_fine :
-      (h : List Event) → Lawful M n t s h → (line : List ℕ) (o : Option Reply) (rows : List Figured) (h' : List Event) (w : Weights) (v : ℕ)
-      → Handled M n t s h line o rows h' → reading (limits M n) line ≡ Ok (Ask w) → o ≡ Some (gives v)
+  served_passed :
+      (q : Request) (a : Told) (es : List Event) (w : Weights) (v : ℕ) → Served n q a es → q ≡ Ask w → a ≡ figure v → AllByRecursion (Fine M n) es
       → RowCheck M n (row n w) None × (v < M.size)
-  handled_fine h lawful line o rows h' w v (remark is) read gave = absurd (let z : ◌≡◌ {A = ℕ} 0 1 = cc in omega arith)
-  handled_fine h lawful line o rows h' w v (faulty f is) read gave = absurd (let z : ◌≡◌ {A = ℕ} 0 1 = cc in omega arith)
-  handled_fine h lawful line o rows h' w v (served q r k is by) read gave =
-      let asks : q ≡ Ask w = cc in
-      let given : r ≡ gives v = cc in served_fine h lawful q r k w v by asks given
+  served_passed q a es w v (ask u b ds asked) asks told fine =
+      let same : u ≡ w = cc in
+      subst (λ (x : Weights). RowCheck M n (row n x) None × (v < M.size)) same (asked_passed (row n u) a es v asked told fine)
+  served_passed q a es w v (try u b ds tried) asks told fine = absurd (let z : ◌≡◌ {A = ℕ} 0 1 = cc in omega arith)
+  served_passed q a es w v (witness_refused i b e) asks told fine = absurd (let z : ◌≡◌ {A = ℕ} 0 1 = cc in omega arith)
+  served_passed q a es w v (witness_filled i b t) asks told fine = absurd (let z : ◌≡◌ {A = ℕ} 0 1 = cc in omega arith)
 
-  pub answered-loggable :
-      Count n → (h : List Event) → Lawful M n t s h → (line : List ℕ) (rows : List Figured) (h' : List Event) (w : Weights) (v room : ℕ)
-      → Handled M n t s h line (Some (gives v)) rows h' → reading (limits M n) line ≡ Ok (Ask w) → 139 ≤ room
-      → RowWrite M n (row n w) v room None
-  answered-loggable count h lawful line rows h' w v room handled read wide =
-      let fine = handled_fine h lawful line _ rows h' w v handled read refl in
-      let fits = row_fits M (weights_of (row n w)) n v few in
-      writes.accepted count fine.0 fine.1 (omega (arith, fits, wide))
+  handled_passed :
+      (line : List ℕ) (o : Option Told) (es : List Event) (w : Weights) (v : ℕ) → Handled M n line o es → reading (limits M n) line ≡ Ok (Ask w)
+      → o ≡ Some (figure v) → AllByRecursion (Fine M n) es → RowCheck M n (row n w) None × (v < M.size)
+  handled_passed line o es w v (remark is) read told fine = absurd (let z : ◌≡◌ {A = ℕ} 0 1 = cc in omega arith)
+  handled_passed line o es w v (faulty f is) read told fine = absurd (let z : ◌≡◌ {A = ℕ} 0 1 = cc in omega arith)
+  handled_passed line o es w v (served q a ds is by) read told fine =
+      let asks : q ≡ Ask w = cc in let gave : a ≡ figure v = cc in served_passed q a es w v by asks gave fine
+
+  pub answered_loggable :
+      Count n → (line : List ℕ) (es : List Event) (w : Weights) (v room : ℕ) → Handled M n line (Some (figure v)) es
+      → reading (limits M n) line ≡ Ok (Ask w) → AllByRecursion (Fine M n) es → 139 ≤ room → RowWrite M n (row n w) v room None
+  answered_loggable count line es w v room handled read fine wide =
+      let passed = handled_passed line _ es w v handled read refl fine in
+      let fits = row_fits M (weights_of (row n w)) n v count.1 in
+      writes.accepted count passed.0 passed.1 (omega arith)

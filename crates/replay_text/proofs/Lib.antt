@@ -3,4 +3,5 @@ pub mod Rooms
 pub mod Written
 pub mod Brief
 pub mod Handling
+pub mod Logged
 pub mod Progress

@@ -7,8 +7,8 @@ use Rattle.field.specs.Model.{FieldModel}
 use Rattle.field.specs.Sums.{weights_of}
 use Rattle.field.specs.declared.Element.{Element}
 use Rattle.buffer.specs.Buffers.{Put}
-use Rattle.history.proofs.Checked.{row-check-apart}
 use Rattle.server.specs.Checks.{Count}
+use Rattle.checks.proofs.Checked.{row-check-apart}
 use Rattle.answer_log.specs.Rows.{row_bytes}
 use Rattle.answer_log.specs.Writes.{RowWrite, HeaderWrite, wrong_count, bad_row, no_figure, log_full, accepted}
 

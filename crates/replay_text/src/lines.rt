@@ -1,8 +1,9 @@
 // One line of a replay: what it prints, and what it logs.
-ghost use Rattle.std.specs.Prelude.{◌≡◌, ◌<◌, ◌≤◌, length};
+ghost use Rattle.std.specs.Prelude.{◌≡◌, ◌<◌, ◌≤◌, length, IfSome};
 ghost use Rattle.buffer.specs.Buffers.{Put};
 ghost use Rattle.log_record.specs.Joins.{rows_bytes};
 ghost use Rattle.session.specs.States.{server_of};
+ghost use Rattle.answer_text.specs.AnswerLines.{Short};
 ghost use Rattle.request.specs.Carried.{outcome_told, outcome_rows};
 ghost use Rattle.replay_text.specs.Replays.{printed};
 ghost use Rattle.replay_text.specs.Handling.{Loggable, LineDone};
@@ -22,13 +23,13 @@ pub(crate) struct Used {
     pub log: usize,
 }
 
-// Prints what came of a line, and answers how many bytes that takes. What does not fit is not printed.
+// Prints what came of a line, and answers how many bytes that takes.
 fn print(number: usize, n: usize, came: &Result<Outcome, RequestFault>, out: &mut [u8]) -> usize
-    requires { n ≤ 64 }
-    ensures within { result ≤ length out.old }
-    ensures length { length out.new ≡ length out.old }
-    ensures put { length (printed number (outcome_told n came.now)) ≤ length out.old → Put (printed number (outcome_told n came.now)) out.old out.new result }
-    ensures none { length out.old < length (printed number (outcome_told n came.now)) → (result ≡ 0) × (out.new ≡ out.old) }
+    requires few { n ≤ 64 }
+    requires number { number < 100000 }
+    requires short { IfSome (outcome_told n came.now) Short }
+    requires room { 392 ≤ length out.old }
+    ensures put { Put (printed number (outcome_told n came.now)) out.old out.new result }
 {
     let answer = match came {
         Ok(Outcome::Skipped) => return 0,
@@ -37,7 +38,7 @@ fn print(number: usize, n: usize, came: &Result<Outcome, RequestFault>, out: &mu
         Ok(Outcome::Filled(table)) => Answer::Witness(&table[0..n]),
         Err(fault) => Answer::Refused(Refusal::from(*fault)),
     };
-    write_answer(number, &answer, out).unwrap_or(0)
+    write_answer(number, &answer, out).unwrap()
 }
 
 // Logs the row that a line had answered, if any, and answers how many bytes that takes. What cannot be written is left out.
@@ -73,6 +74,8 @@ pub(crate) fn handle_line<S: Server>(
     ensures done { LineDone session.old number line.now answers.old log.old session.new answers.new log.new result }
 {
     let n = session.count();
+    // By the law of a state that it stands for, what is told is short.
+    session.stands();
     let came = carry_out(session, line);
     Used {
         answers: print(number, n, &came, answers),

@@ -48,6 +48,7 @@ fn handle_lines<S: Server>(
 ) -> Replay
     requires text { length text.now ≤ 65536 }
     requires header { Front log.old log.old (header_bytes S.Over.Field.model (members_of session.old)) header }
+    ensures begun { IfSome result.stop (λ x. 1 ≤ x.line) }
     ensures server { server_of session.new ≡ server_of session.old }
     ensures law { Replays session.old text.now answers.old log.old result answers.new log.new session.new }
 {

@@ -1,16 +1,19 @@
-use Rattle.std.proofs.Common.{◌≡◌, ◌+◌, ◌≤◌, List, length, None}
-use Rattle.history.specs.Events.{Start, Event}
-use Rattle.session.specs.Views.{Holds}
+use Rattle.std.proofs.Common.{◌≡◌, ◌+◌, ◌≤◌, length, None}
+use Rattle.law.specs.States.{State}
+use Rattle.session.specs.States.{server_of, Holds}
 use Rattle.replay_text.proofs.Progress.{Progress}
 use Rattle.replay_text.proofs.replays.handle_lines.Given as goal
 
 abbrev pub invariant-loop-rest : goal.invariant-loop-rest
 invariant-loop-rest g l =
-    let M = g.S.Over.Field.model in
-    let T = g.S.Server.table l.initial.session.server in
-    (l.session.server ≡ l.initial.session.server) × (l.done.lines + length l.rest ≤ length l.text)
-    × (l.done.stop ≡ None) × (l.done.answers ≤ length l.answers) × (l.done.log ≤ length l.log)
-    × ((s : Start) (h : List Event) → Holds M T l.initial.session s h → Progress M T l.session l.text l.initial.answers l.initial.log l.answers l.log l.done l.rest s h)
+    record {
+      server : server_of l.session ≡ server_of l.initial.session;
+      count : l.done.lines + length l.rest ≤ length l.text;
+      none_yet : l.done.stop ≡ None;
+      answers_within : l.done.answers ≤ length l.answers;
+      log_within : l.done.log ≤ length l.log;
+      progress : (σ : State) → Holds σ l.initial.session → Progress l.session l.text l.initial.answers l.initial.log l.answers l.log l.done l.rest σ;
+    }
 
 abbrev pub decreases-loop-rest : goal.decreases-loop-rest
 decreases-loop-rest g l = length l.rest
