@@ -1,12 +1,10 @@
--- What a line is told is short, and a row that it has answered can be logged: both by the law. Assumes nothing.
+-- What a line is told is short, and its figure an element: both by the law. Assumes nothing.
 use Rattle.std.proofs.Common.{◌≡◌, ℕ, ◌<◌, ◌≤◌, List, length, Some, None, Ok, Option, IfSome, refl, ap, ◌∙◌, subst, arith}
 use Rattle.std.specs.List.{AllByRecursion}
 use Rattle.refusal.specs.declared.Refusal.{Refusal}
 use Rattle.refusal.specs.Numbered.{number}
 use Rattle.field.specs.Model.{FieldModel, FieldLaws}
-use Rattle.field.specs.Sums.{weights_of}
 use Rattle.field.specs.declared.Element.{Element}
-use Rattle.server.specs.Checks.{Count}
 use Rattle.server.specs.Tables.{value_at}
 use Rattle.echelon.proofs.Codes.{sum_below}
 use Rattle.echelon.proofs.Tables.{witness-fits}
@@ -17,7 +15,6 @@ use Rattle.law.specs.States.{State, seen, Seen, Event, permitted, answered, with
 use Rattle.law.specs.Law.{Refuses, permit_open, permits_spent, bad_row, discloses, not_open_to_answer, not_open_to_withdraw, bad_witness, Due, refuses, grants, figures, takes_back, fills, Lawful, ends, goes_on}
 use Rattle.law.specs.Sound.{Sound}
 use Rattle.law.proofs.Facts.{stays_sound_lem, same_table}
-use Rattle.query.specs.declared.items.Weights.{Weights}
 use Rattle.query.specs.declared.faults.NumberFault.{NumberFault}
 use Rattle.query.specs.declared.faults.NumberFault.TheVariants.{NoDigit, LeadingZero, TooManyDigits, OutOfRange}
 use Rattle.query.specs.declared.faults.ItemFault.{ItemFault}
@@ -25,15 +22,11 @@ use Rattle.query.specs.declared.faults.ItemFault.TheVariants.{NoSpace, Number, R
 use Rattle.query.specs.declared.faults.LineFault.{LineFault}
 use Rattle.query.specs.declared.faults.LineFault.TheVariants.{TooLong, NoKind, Item, NotEnded}
 use Rattle.query.specs.declared.lines.Request.{Request}
-use Rattle.query.specs.declared.lines.Request.TheVariants.{Ask}
 use Rattle.query.specs.Lines.{limits, reading}
 use Rattle.query.specs.Refusals.{number_refusal, item_refusal, line_refusal}
 use Rattle.query.proofs.Places.{within}
-use Rattle.answer_log.specs.Writes as writes
-use Rattle.answer_log.specs.Writes.{RowWrite}
 use Rattle.request.specs.Requests.{row, Asked, ask_refused, ask_answered, Tried, try_refused, try_granted, Served, ask, try, witness_refused, witness_filled, Handled, remark, faulty, served}
 use Rattle.answer_text.specs.AnswerLines.{Told, figure, table, refused, Short}
-use Rattle.replay_text.proofs.Rooms.{row_fits}
 
 -- what the law says of an event over n members, as far as a line needs it
 abbrev pub Fine : FieldModel → ℕ → Event → Type 0
@@ -132,35 +125,19 @@ module _ (M : FieldModel) (L : FieldLaws M) (n : ℕ) where
       let place = (within (limits M n) line _ refl f is).1 in (fault_small f, omega (arith, place))
   handled_brief line o es (served q a ds is by) fine = served_brief q a es by fine
 
-  -- a row that was answered passed its checks, and its figure is an element
-  asked_passed :
-      (ws : List Element) (a : Told) (es : List Event) (v : ℕ) → Asked ws a es → a ≡ figure v → AllByRecursion (Fine M n) es
-      → RowCheck M n ws None × (v < M.size)
-  asked_passed ws a es v (ask_refused e) is fine = absurd (let z : ◌≡◌ {A = ℕ} 0 1 = cc in omega arith)
-  asked_passed ws a es v (ask_answered k f) is fine = let same : f ≡ v = cc in (fine.0, subst (λ (x : ℕ). x < M.size) same fine.1.0)
+  -- a figure that was answered is an element
+  asked_code : (ws : List Element) (a : Told) (es : List Event) (v : ℕ) → Asked ws a es → a ≡ figure v → AllByRecursion (Fine M n) es → v < M.size
+  asked_code ws a es v (ask_refused e) is fine = absurd (let z : ◌≡◌ {A = ℕ} 0 1 = cc in omega arith)
+  asked_code ws a es v (ask_answered k f) is fine = let same : f ≡ v = cc in subst (λ (x : ℕ). x < M.size) same fine.1.0
 
-  served_passed :
-      (q : Request) (a : Told) (es : List Event) (w : Weights) (v : ℕ) → Served n q a es → q ≡ Ask w → a ≡ figure v → AllByRecursion (Fine M n) es
-      → RowCheck M n (row n w) None × (v < M.size)
-  served_passed q a es w v (ask u b ds asked) asks told fine =
-      let same : u ≡ w = cc in
-      subst (λ (x : Weights). RowCheck M n (row n x) None × (v < M.size)) same (asked_passed (row n u) a es v asked told fine)
-  served_passed q a es w v (try u b ds tried) asks told fine = absurd (let z : ◌≡◌ {A = ℕ} 0 1 = cc in omega arith)
-  served_passed q a es w v (witness_refused i b e) asks told fine = absurd (let z : ◌≡◌ {A = ℕ} 0 1 = cc in omega arith)
-  served_passed q a es w v (witness_filled i b t) asks told fine = absurd (let z : ◌≡◌ {A = ℕ} 0 1 = cc in omega arith)
+  served_code : (q : Request) (a : Told) (es : List Event) (v : ℕ) → Served n q a es → a ≡ figure v → AllByRecursion (Fine M n) es → v < M.size
+  served_code q a es v (ask u b ds asked) told fine = asked_code (row n u) a es v asked told fine
+  served_code q a es v (try u b ds (try_refused e)) told fine = absurd (let z : ◌≡◌ {A = ℕ} 0 1 = cc in omega arith)
+  served_code q a es v (try u b ds (try_granted k)) told fine = absurd (let z : ◌≡◌ {A = ℕ} 0 1 = cc in omega arith)
+  served_code q a es v (witness_refused i b e) told fine = absurd (let z : ◌≡◌ {A = ℕ} 0 1 = cc in omega arith)
+  served_code q a es v (witness_filled i b t) told fine = absurd (let z : ◌≡◌ {A = ℕ} 0 1 = cc in omega arith)
 
-  handled_passed :
-      (line : List ℕ) (o : Option Told) (es : List Event) (w : Weights) (v : ℕ) → Handled M n line o es → reading (limits M n) line ≡ Ok (Ask w)
-      → o ≡ Some (figure v) → AllByRecursion (Fine M n) es → RowCheck M n (row n w) None × (v < M.size)
-  handled_passed line o es w v (remark is) read told fine = absurd (let z : ◌≡◌ {A = ℕ} 0 1 = cc in omega arith)
-  handled_passed line o es w v (faulty f is) read told fine = absurd (let z : ◌≡◌ {A = ℕ} 0 1 = cc in omega arith)
-  handled_passed line o es w v (served q a ds is by) read told fine =
-      let asks : q ≡ Ask w = cc in let gave : a ≡ figure v = cc in served_passed q a es w v by asks gave fine
-
-  pub answered_loggable :
-      Count n → (line : List ℕ) (es : List Event) (w : Weights) (v room : ℕ) → Handled M n line (Some (figure v)) es
-      → reading (limits M n) line ≡ Ok (Ask w) → AllByRecursion (Fine M n) es → 139 ≤ room → RowWrite M n (row n w) v room None
-  answered_loggable count line es w v room handled read fine wide =
-      let passed = handled_passed line _ es w v handled read refl fine in
-      let fits = row_fits M (weights_of (row n w)) n v count.1 in
-      writes.accepted count passed.0 passed.1 (omega arith)
+  pub handled_code : (line : List ℕ) (o : Option Told) (es : List Event) (v : ℕ) → Handled M n line o es → o ≡ Some (figure v) → AllByRecursion (Fine M n) es → v < M.size
+  handled_code line o es v (remark is) told fine = absurd (let z : ◌≡◌ {A = ℕ} 0 1 = cc in omega arith)
+  handled_code line o es v (faulty f is) told fine = absurd (let z : ◌≡◌ {A = ℕ} 0 1 = cc in omega arith)
+  handled_code line o es v (served q a ds is by) told fine = let gave : a ≡ figure v = cc in served_code q a es v by gave fine

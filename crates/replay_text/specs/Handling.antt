@@ -1,10 +1,11 @@
 -- A replay on a session in memory.
---   Loggable M n room came   the row that was answered, if any, can be logged in so much room
+--   Loggable M room came     the row that was answered, if any, can be logged in so much room
+--   logged_bytes M came      the bytes of that row
 --   LineDone x k line answers log x' answers' log' used   the line is handled by the law, printed and logged
 --   Replays x text answers log r answers' log' x'   in every state that x stands for the text is replayed by the law, the run of
 --                            its events is assured, and x' stands for the state that they lead to
 -- Assumes nothing.
-use Rattle.std.specs.Prelude.{ℕ, List, length, None, Ok, Option, Result}
+use Rattle.std.specs.Prelude.{ℕ, List, [], length, None, Ok, Option, Result}
 use Rattle.field.specs.declared.Field as field
 use Rattle.server.specs.declared.Server as server
 use Rattle.field.specs.Model.{FieldModel}
@@ -13,10 +14,12 @@ use Rattle.law.specs.States.{State, Event, answered_by}
 use Rattle.law.specs.Promises.{Assured}
 use Rattle.session.specs.States.{Holds, Leads}
 use Rattle.session.specs.declared.session.Session.{Session}
+use Rattle.checks.specs.CheckedRows.{row_of}
+use Rattle.answer_log.specs.Rows.{row_bytes}
 use Rattle.answer_log.specs.Writes.{RowWrite}
 use Rattle.log_record.specs.Joins.{rows_bytes}
 use Rattle.answer_text.specs.AnswerLines.{Told}
-use Rattle.request.specs.Requests.{row, Handled}
+use Rattle.request.specs.Requests.{Handled}
 use Rattle.request.specs.declared.faults.RequestFault.{RequestFault}
 use Rattle.request.specs.declared.outcome.Outcome.{Outcome}
 use Rattle.request.specs.declared.outcome.Outcome.TheVariants.{Answered}
@@ -25,9 +28,14 @@ use Rattle.replay_text.specs.declared.outcome.Replay.{Replay}
 use Rattle.replay_text.specs.Replays.{printed, Replayed}
 
 -- the row that was answered, if any, can be logged in so much room
-abbrev pub Loggable : FieldModel → ℕ → ℕ → Result Outcome RequestFault → Type 0
-Loggable M n room (Ok (Answered w v)) = RowWrite M n (row n w) v.0 room None
-Loggable M n room _ = Unit {0}
+abbrev pub Loggable : {V : Type 0} {GV : field.Ghosts V} → FieldModel → ℕ → Result (Outcome V GV) RequestFault → Type 0
+Loggable M room (Ok (Answered r v)) = RowWrite M r.count (row_of r) v.0 room None
+Loggable M room _ = Unit {0}
+
+-- the bytes of that row
+abbrev pub logged_bytes : {V : Type 0} {GV : field.Ghosts V} → FieldModel → Result (Outcome V GV) RequestFault → List ℕ
+logged_bytes M (Ok (Answered r v)) = row_bytes M r.count (row_of r) v.0
+logged_bytes M _ = []
 
 abbrev pub LineDone :
     {S V : Type 0} {GS : server.Ghosts S V} {GV : field.Ghosts V} → Session S V GS GV → ℕ → List ℕ → List ℕ → List ℕ → Session S V GS GV → List ℕ → List ℕ → Used → Type 0

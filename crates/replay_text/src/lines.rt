@@ -1,12 +1,11 @@
 // One line of a replay: what it prints, and what it logs.
 ghost use Rattle.std.specs.Prelude.{◌≡◌, ◌<◌, ◌≤◌, length, IfSome};
 ghost use Rattle.buffer.specs.Buffers.{Put};
-ghost use Rattle.log_record.specs.Joins.{rows_bytes};
 ghost use Rattle.session.specs.States.{server_of};
 ghost use Rattle.answer_text.specs.AnswerLines.{Short};
-ghost use Rattle.request.specs.Carried.{outcome_told, outcome_rows};
+ghost use Rattle.request.specs.Carried.{outcome_told};
 ghost use Rattle.replay_text.specs.Replays.{printed};
-ghost use Rattle.replay_text.specs.Handling.{Loggable, LineDone};
+ghost use Rattle.replay_text.specs.Handling.{Loggable, logged_bytes, LineDone};
 
 use answer_log::write_row;
 use answer_text::{Answer, write_answer};
@@ -24,12 +23,17 @@ pub(crate) struct Used {
 }
 
 // Prints what came of a line, and answers how many bytes that takes.
-fn print(number: usize, n: usize, came: &Result<Outcome, RequestFault>, out: &mut [u8]) -> usize
+fn print<F: Field>(
+    number: usize,
+    n: usize,
+    came: &Result<Outcome<F>, RequestFault>,
+    out: &mut [u8],
+) -> usize
     requires few { n ≤ 64 }
     requires number { number < 100000 }
     requires short { IfSome (outcome_told n came.now) Short }
     requires room { 392 ≤ length out.old }
-    ensures put { Put (printed number (outcome_told n came.now)) out.old out.new result }
+    ensures { Put (printed number (outcome_told n came.now)) out.old out.new result }
 {
     let answer = match came {
         Ok(Outcome::Skipped) => return 0,
@@ -41,18 +45,13 @@ fn print(number: usize, n: usize, came: &Result<Outcome, RequestFault>, out: &mu
     write_answer(number, &answer, out).unwrap()
 }
 
-// Logs the row that a line had answered, if any, and answers how many bytes that takes. What cannot be written is left out.
-fn note<F: Field>(n: usize, came: &Result<Outcome, RequestFault>, log: &mut [u8]) -> usize
-    requires { n ≤ 64 }
-    ensures within { result ≤ length log.old }
-    ensures length { length log.new ≡ length log.old }
-    ensures put { Loggable F.model n (length log.old) came.now → Put (rows_bytes F.model n (outcome_rows n came.now)) log.old log.new result }
-    ensures none { (Loggable F.model n (length log.old) came.now → ⊥) → (result ≡ 0) × (log.new ≡ log.old) }
+// Logs the row that a line had answered, if any, and answers how many bytes that takes.
+fn note<F: Field>(came: &Result<Outcome<F>, RequestFault>, log: &mut [u8]) -> usize
+    requires { Loggable F.model (length log.old) came.now }
+    ensures { Put (logged_bytes F.model came.now) log.old log.new result }
 {
     match came {
-        Ok(Outcome::Answered(weights, figure)) => {
-            write_row::<F>(n, &weights.0[..n], *figure, log).unwrap_or(0)
-        }
+        Ok(Outcome::Answered(row, figure)) => write_row(row, *figure, log).unwrap(),
         _ => 0,
     }
 }
@@ -79,6 +78,6 @@ pub(crate) fn handle_line<S: Server>(
     let came = carry_out(session, line);
     Used {
         answers: print(number, n, &came, answers),
-        log: note::<S::Over>(n, &came, log),
+        log: note(&came, log),
     }
 }

@@ -14,22 +14,16 @@ print-requires-clause-short g c =
     subst (λ (n : ℕ). IfSome (outcome_told n came.result) Short) (sym c.count-n.ensures.members)
     (told_short c.args.session.now came.new.session c.args.line.now came.result came.ensures.law g.met.S.Over.Field.laws c.stands.ensures)
 
+pub note-requires : goal.note-requires
+note-requires g c =
+    row_loggable c.args.session.now c.carry_out-came.new.session c.args.line.now c.carry_out-came.result c.carry_out-came.ensures.law
+    g.met.S.Over.Field.laws c.stands.ensures (length c.args.log.now) c.requires.log
+
 pub returns-clause-done : goal.returns-clause-done
 returns-clause-done g c =
-    let M = g.S.Over.Field.model in
     let came = c.carry_out-came.result in
     let x = c.args.session.now in
-    let x' = c.carry_out-came.new.session in
     let answers = c.args.answers.now in
-    let log = c.args.log.now in
-    let size = c.count-n.ensures.members in
-    let law = c.carry_out-came.ensures.law in
-    let loggable =
-    row_loggable x x' c.args.line.now came law g.met.S.Over.Field.laws c.stands.ensures c.count-n.ensures.lawful c.carry_out-came.ensures.read (length log) c.requires.log
-    in
-    let prints = subst (λ (n : ℕ). Put (printed c.args.number (outcome_told n came)) answers c.print.new.out c.print.result) size c.print.ensures.put in
-    let logs =
-    subst (λ (n : ℕ). Loggable M n (length log) came → Put (rows_bytes M n (outcome_rows n came)) log c.note.new.log c.note.result) size
-    c.note.ensures.put
-    in
-    line_done x x' c.args.line.now came law c.args.number answers log c.print.new.out c.note.new.log _ prints (logs loggable)
+    let prints = subst (λ (n : ℕ). Put (printed c.args.number (outcome_told n came)) answers c.print.new.out c.print.result) c.count-n.ensures.members c.print.ensures in
+    line_done x c.carry_out-came.new.session c.args.line.now came c.carry_out-came.ensures.law c.carry_out-came.ensures.read c.args.number answers c.args.log.now
+    c.print.new.out c.note.new.log _ prints c.note.ensures
