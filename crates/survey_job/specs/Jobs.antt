@@ -3,7 +3,7 @@
 --                                 and all that is promised of a run holds of the events of its calls
 --   Printed M table text out log  the same of a table file; a refused one prints its refusal, and logs nothing
 -- Assumes nothing.
-use Rattle.std.specs.Prelude.{List, [], ◌++◌, take, Some, None}
+use Rattle.std.specs.Prelude.{ℕ, List, [], ◌++◌, take, Some, None}
 use Rattle.refusal.specs.declared.Refusal.{Refusal}
 use Rattle.refusal.specs.Numbered.{number, detail}
 use Rattle.field.specs.Model.{FieldModel}
