@@ -1,6 +1,7 @@
 // The writers of a log and its rewriting, in buffers of so many bytes: each refusal, and the order between two.
 use amounts::Amounts;
 use answer_log::{write_header, write_row};
+use checks::CheckedRow;
 use field::Element;
 use log_record::rewrite_accepted;
 use record::Room;
@@ -80,6 +81,16 @@ fn shown(
     println!(rt; "")
 }
 
+// Makes a row of `n` weights, and writes it.
+fn write(
+    n: usize,
+    weights: &[Element],
+    figure: Element,
+    out: &mut [u8],
+) -> Result<usize, Refusal> {
+    write_row::<Amounts>(&CheckedRow::new(weights, n)?, figure, out)
+}
+
 fn row(
     rt: &HostRuntime,
     case: &str,
@@ -93,7 +104,7 @@ fn row(
         row.push(Element(*weight))?;
     }
     let mut buffer = vec![in rt.alloc(); MARK; room]?;
-    let came = write_row::<Amounts>(n, &row, Element(figure), buffer.as_mut_slice());
+    let came = write(n, &row, Element(figure), buffer.as_mut_slice());
     shown(rt, case, came, &buffer)
 }
 

@@ -2,6 +2,7 @@
 ghost use Rattle.std.specs.Prelude.{◌≤◌, length};
 
 use answer_log::{write_header, write_row};
+use checks::CheckedRow;
 use field::{Element, Field};
 use record::Record;
 use std::array;
@@ -57,16 +58,14 @@ impl Made {
         row: &[Element],
         table: &[Element],
     ) {
+        let Ok(checked) = CheckedRow::new(row, rec.count()) else {
+            return;
+        };
         let figure = figure::<F>(row, table);
-        if rec.admit(row, figure).is_err() {
+        if rec.admit(&checked, figure).is_err() {
             return;
         }
-        if let Ok(length) = write_row::<F>(
-            rec.count(),
-            row,
-            figure,
-            &mut self.buffer[self.used..],
-        ) {
+        if let Ok(length) = write_row(&checked, figure, &mut self.buffer[self.used..]) {
             self.used += length;
             self.rows = self.rows.saturating_add(1);
         }

@@ -1,14 +1,14 @@
 -- A log that is read row by row, forwards. Assumes nothing.
-use Rattle.std.proofs.Common.{◌≡◌, ℕ, ◌+◌, ◌-◌, ◌<◌, ◌≤◌, List, [], ◌∷◌, length, drop, Some, None, Ok, Err, Option, Result, sym, ap, ◌∙◌, subst, arith, MatchResult}
+use Rattle.std.proofs.Common.{◌≡◌, ℕ, ◌+◌, ◌-◌, ◌<◌, ◌≤◌, List, [], ◌∷◌, length, drop, Some, None, Ok, Err, OnOk, IfErr, Option, Result, sym, ap, ◌∙◌, subst, arith}
 use Rattle.std.proofs.lemmas.List.{drop-drop, length-drop}
 use Rattle.refusal.specs.declared.Refusal.{Refusal}
 use Rattle.field.specs.Model.{FieldModel}
 use Rattle.field.specs.Sums.{Vector}
 use Rattle.server.specs.Tables.{bounded}
 use Rattle.echelon.specs.Rows.{Figured, row_with}
-use Rattle.echelon.specs.Reduced.{Pivoted, ReducedForm}
+use Rattle.echelon.specs.Reduced.{Pivoted}
 use Rattle.answer_log.specs.Entries.{EntryCheck, Reads, HeaderCheck, accepted}
-use Rattle.log_record.specs.Joins.{JoinCheck, RowsJoin, no_more, bad_row, kept_out, next_row, LogRecord, rows, Recorded}
+use Rattle.log_record.specs.Joins.{JoinCheck, RowsJoin, no_more, bad_row, kept_out, next_row, RowsRead, LogRecord, LogRead, rows}
 
 module _ (M : FieldModel) (n k : ℕ) (before : List Figured) (bytes : List ℕ) (at : ℕ) where
   pub rows_done : length bytes ≤ at → RowsJoin M n k before (drop at bytes) None before
@@ -39,9 +39,11 @@ pub header-count : (M : FieldModel) (n : ℕ) (bs : List ℕ) → HeaderCheck M 
 header-count M n bs (accepted long kind count same) = omega (arith, count.0, count.1)
 
 -- header and rows
-pub whole_log :
-    {A : Type 0} (M : FieldModel) (n : ℕ) (bs : List ℕ) (rec : List Pivoted) (r : Result A Refusal) → HeaderCheck M n bs None
-    → MatchResult r (λ _. (given : List Figured) × RowsJoin M n 0 [] (drop 2 bs) None given × Recorded M n given rec) (λ e. RowsJoin M n 0 [] (drop 2 bs) (Some e) [])
-    → MatchResult r (λ _. (given : List Figured) × LogRecord M n bs None given × ReducedForm M n given rec) (λ e. LogRecord M n bs (Some e) [])
-whole_log M n bs rec (Ok x) header (given, join, recorded) = (given, rows None given header join, recorded.form)
-whole_log M n bs rec (Err e) header join = rows (Some e) [] header join
+module _ (M : FieldModel) (n : ℕ) (bs : List ℕ) (header : HeaderCheck M n bs None) where
+  pub log_read : {A E : Type 0} (rec : List Pivoted) (r : Result A E) → OnOk r (RowsRead M n bs rec) → OnOk r (LogRead M n bs rec)
+  log_read rec (Ok x) (given, join, recorded) = (given, rows None given header join, recorded.form)
+  log_read rec (Err e) none = tt
+
+  pub log_refused : {A : Type 0} (r : Result A Refusal) → IfErr r (λ e. RowsJoin M n 0 [] (drop 2 bs) (Some e) []) → IfErr r (λ e. LogRecord M n bs (Some e) [])
+  log_refused (Ok x) none = tt
+  log_refused (Err e) join = rows (Some e) [] header join

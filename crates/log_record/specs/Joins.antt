@@ -8,6 +8,7 @@
 --   Recorded M n given rec      the record is the reduced form of the rows given, which pin nobody, and every table that fits it has each figure given
 --   JoinsAfter M n k rec g rec'   after whatever rows rec is recorded for, the row of g joins, and rec' is recorded for them with g
 --   RefusedAfter M n k rec g e    after whatever rows rec is recorded for, the row of g is refused by e
+--   RowsRead, LogRead M n bs rec  the rows of the log bs join, and rec is their record; the same of a whole log
 -- Of a log, `given` are all rows with their figures, and none where it is refused.
 -- Lists of rows have the newest first. Assumes nothing.
 use Rattle.std.specs.Prelude.{◌≡◌, ℕ, ◌+◌, ◌<◌, ◌≤◌, List, [], ◌∷◌, ◌++◌, length, drop, Some, None, Option, ◌≢◌}
@@ -76,3 +77,9 @@ JoinsAfter M n k rec g rec' =
 
 abbrev pub RefusedAfter : FieldModel → ℕ → LogRow → List Pivoted → Figured → Refusal → Type 0
 RefusedAfter M n k rec g e = (before : List Figured) → Recorded M n before rec → JoinCheck M n k before g (Some e)
+
+abbrev pub RowsRead : FieldModel → ℕ → List ℕ → List Pivoted → Type 0
+RowsRead M n bs rec = (given : List Figured) × RowsJoin M n 0 [] (drop 2 bs) None given × Recorded M n given rec
+
+abbrev pub LogRead : FieldModel → ℕ → List ℕ → List Pivoted → Type 0
+LogRead M n bs rec = (given : List Figured) × LogRecord M n bs None given × ReducedForm M n given rec

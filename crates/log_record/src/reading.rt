@@ -1,11 +1,11 @@
 // A whole log, read into a record.
-ghost use Rattle.std.specs.Prelude.{◌≡◌, ◌≢◌, List, [], drop, Some, None, MatchResult};
+ghost use Rattle.std.specs.Prelude.{◌≡◌, ◌≢◌, List, [], drop, Some, None, OnOk, IfErr};
 ghost use Rattle.server.specs.Checks.{Count};
 ghost use Rattle.server.specs.Tables.{bounded};
 ghost use Rattle.echelon.specs.Rows.{Figured};
 ghost use Rattle.echelon.specs.Reduced.{ReducedForm};
 ghost use Rattle.record.specs.Records.{rec_of};
-ghost use Rattle.log_record.specs.Joins.{RowsJoin, LogRecord, Recorded};
+ghost use Rattle.log_record.specs.Joins.{RowsJoin, RowsRead, LogRecord, LogRead};
 
 use crate::joining::join_row;
 use answer_log::{LogRows, read_header};
@@ -25,7 +25,8 @@ pub struct ReadLog<F: Field> {
 fn read_rows<F: Field>(held: &mut Record<F>, log: &[u8]) -> Result<(), Refusal>
     requires empty { rec_of held.old ≡ [] }
     ensures count { held.new.count ≡ held.old.count }
-    ensures joins { MatchResult result (λ _. (given : List Figured) × RowsJoin F.model held.old.count 0 [] (drop 2 log.now) None given × Recorded F.model held.old.count given (rec_of held.new)) (λ e. RowsJoin F.model held.old.count 0 [] (drop 2 log.now) (Some e) []) }
+    ensures joins { OnOk result (RowsRead F.model held.old.count log.now (rec_of held.new)) }
+    ensures refused { IfErr result (λ e. RowsJoin F.model held.old.count 0 [] (drop 2 log.now) (Some e) []) }
 {
     let n = held.count();
     for (row, entry) in LogRows::<F>::new(log, n).enumerate() {
@@ -40,7 +41,8 @@ fn read_log<F: Field>(held: &mut Record<F>, n: usize, log: &[u8]) -> Result<(), 
     requires empty { rec_of held.old ≡ [] }
     requires count { held.old.count ≡ bounded n }
     ensures count { held.new.count ≡ bounded n }
-    ensures log { MatchResult result (λ _. (given : List Figured) × LogRecord F.model n log.now None given × ReducedForm F.model n given (rec_of held.new)) (λ e. LogRecord F.model n log.now (Some e) []) }
+    ensures log { OnOk result (LogRead F.model n log.now (rec_of held.new)) }
+    ensures refused { IfErr result (λ e. LogRecord F.model n log.now (Some e) []) }
 {
     read_header::<F>(log, n)?;
     read_rows(held, log)

@@ -11,7 +11,7 @@ use Rattle.std.proofs.lemmas.Bool.Decides.{nat_tests}
 use Rattle.std.proofs.lemmas.List.Sorted.{IsNonDecreasingBy-from_default}
 use Rattle.std.proofs.lemmas.List.{get_or-set_same, get_or-set_other, get_or_default}
 use Rattle.field.specs.Model.{FieldModel}
-use Rattle.field.specs.Sums.{Codes, weights_of}
+use Rattle.field.specs.Sums.{Vector, Codes, weights_of}
 use Rattle.field.specs.declared.Field.{Ghosts}
 use Rattle.checks.specs.CheckedRows.{row_of}
 use Rattle.checks.specs.declared.row.CheckedRow.{CheckedRow}
@@ -20,6 +20,7 @@ use Rattle.echelon.specs.Elimination.{cleared, leftover, pivot_cleared}
 use Rattle.echelon.specs.Rows.{Figured, minus, CodedRow}
 use Rattle.record.specs.Rows.{pivoted, all_pivoted, SameRow, SamePivoted}
 use Rattle.record.specs.Records.{rec_of}
+use Rattle.record.specs.Standings.{unfigured}
 use Rattle.record.specs.declared.rows.RecordRow.{RecordRow}
 use Rattle.record.specs.declared.record.Record.{Record}
 
@@ -78,6 +79,14 @@ leftover-same M n [] g h below same = same
 leftover-same M n (e ∷ rec) g h below same =
     leftover-same M n rec (cleared M e g) (cleared M e h) (λ a b. below (suc a) (omega arith))
     (cleared-same M n e g h (below 0 (omega arith)) same)
+
+-- what is left over of a row that was taken with the figure 0
+pub leftover-unfigured :
+    (M : FieldModel) (n : ℕ) (rec : List Pivoted) (l start : Figured) (r : Vector) → ((a : ℕ) → a < length rec → (at rec a).pivot < n)
+    → SameRow n l (leftover M rec start) → ((m : ℕ) → m < n → start.row m ≡ r m) → start.figure ≡ 0
+    → SameRow n l (leftover M rec (unfigured r))
+leftover-unfigured M n rec l start r below same rows none =
+    same_trans same (leftover-same M n rec start (unfigured r) below (record { rows = rows; figures = none }))
 
 pub set_here : (rows : List RecordRow) (a : ℕ) (x : RecordRow) → a < length rows → at (all_pivoted (set rows a x)) a ≡ pivoted x
 set_here rows a x h = at_row (set rows a x) a ∙ ap pivoted (get_or-set_same rows a x no_record_row h)

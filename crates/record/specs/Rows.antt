@@ -6,11 +6,14 @@
 --   SamePivoted n d e        two record rows are equal at the n members
 --   AllCleared M n e rec rec'   rec' are the rows rec, each cleared by e
 --   row_without M e r        the weights of r, once the pivot of e is cleared from it
---   NoneNamed, FirstNamed    no member of n is named; p is the lowest that is
+--   NamesNobody, FirstNamed    no member of n is named; p is the lowest that is
 --   NoOther, FirstOther      the same of the members other than q
+--   LowestNamed n w o        o is the lowest named member of n, none where no member is named
+--   LowestOther n w q o      the same of the members other than q
 --   MadeFresh M n l x        x is l made 1 at its lowest named member, with the factor that made it so
 -- Assumes nothing.
-use Rattle.std.specs.Prelude.{◌≡◌, ℕ, ◌<◌, ◌≢◌, List, map, length}
+use Rattle.std.specs.Prelude.{◌≡◌, ℕ, ◌<◌, ◌≢◌, List, map, length, Option, MatchOption}
+use Rattle.refusal.specs.declared.Member.{Member}
 use Rattle.field.specs.Model.{FieldModel}
 use Rattle.field.specs.Sums.{Vector, weights_of}
 use Rattle.echelon.specs.Rows.{Figured, CodedRow}
@@ -47,8 +50,8 @@ AllCleared M n e rec rec' = (a : ℕ) → a < length rec → SamePivoted n (at r
 abbrev pub row_without : FieldModel → RecordRow → RecordRow → Vector
 row_without M e r = (cleared M (pivoted e) (figured_record_row r)).row
 
-abbrev pub NoneNamed : ℕ → Vector → Type 0
-NoneNamed n w = (m : ℕ) → m < n → w m ≡ 0
+abbrev pub NamesNobody : ℕ → Vector → Type 0
+NamesNobody n w = (m : ℕ) → m < n → w m ≡ 0
 
 abbrev pub FirstNamed : ℕ → Vector → ℕ → Type 0
 FirstNamed n w p = (p < n) × (w p ≢ 0) × ((m : ℕ) → m < p → w m ≡ 0)
@@ -58,6 +61,12 @@ NoOther n w q = (m : ℕ) → m < n → m ≢ q → w m ≡ 0
 
 abbrev pub FirstOther : ℕ → Vector → ℕ → ℕ → Type 0
 FirstOther n w q p = (p < n) × (p ≢ q) × (w p ≢ 0) × ((m : ℕ) → m < p → m ≢ q → w m ≡ 0)
+
+abbrev pub LowestNamed : ℕ → Vector → Option Member → Type 0
+LowestNamed n w o = MatchOption o (NamesNobody n w) (λ p. FirstNamed n w p.0)
+
+abbrev pub LowestOther : ℕ → Vector → ℕ → Option Member → Type 0
+LowestOther n w q o = MatchOption o (NoOther n w q) (λ p. FirstOther n w q p.0)
 
 pub record MadeFresh (M : FieldModel) (n : ℕ) (l : Figured) (x : FreshRow) : Type 0 where
   pub first : FirstNamed n l.row x.row.pivot.0

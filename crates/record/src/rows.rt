@@ -43,7 +43,7 @@ pub fn minus<F: Field>(a: Element, b: Element) -> Element
 impl FiguredRow {
     ghost use Rattle.echelon.specs.Rows.{CodedRow};
     ghost use Rattle.echelon.specs.Elimination.{cleared, scaled};
-    ghost use Rattle.record.specs.Rows.{figured_row, pivoted, figured_record_row, SameRow, NoneNamed, FirstNamed, NoOther, FirstOther, MadeFresh};
+    ghost use Rattle.record.specs.Rows.{figured_row, pivoted, figured_record_row, SameRow, NamesNobody, LowestNamed, LowestOther, MadeFresh};
 
     // Takes away that multiple of `by` which leaves 0 at its pivot, over the first `n` members. Below its pivot `by` is 0.
     pub(crate) fn clear<F: Field>(&mut self, by: &RecordRow, n: usize)
@@ -85,7 +85,7 @@ impl FiguredRow {
     // The lowest named member.
     pub(crate) fn lowest_named(&self, n: usize) -> Option<Member>
         requires few { n ≤ 64 }
-        ensures { MatchOption result (NoneNamed n (weights_of self.now.weights)) (λ p. FirstNamed n (weights_of self.now.weights) p.0) }
+        ensures { LowestNamed n (weights_of self.now.weights) result }
     {
         self.weights[..n]
             .iter()
@@ -96,7 +96,7 @@ impl FiguredRow {
     // The lowest named member other than one.
     pub(crate) fn lowest_other(&self, than: Member, n: usize) -> Option<Member>
         requires few { n ≤ 64 }
-        ensures { MatchOption result (NoOther n (weights_of self.now.weights) than.0) (λ p. FirstOther n (weights_of self.now.weights) than.0 p.0) }
+        ensures { LowestOther n (weights_of self.now.weights) than.0 result }
     {
         (0..n)
             .find(|m| *m != than.0 && self.weights[*m].0 != 0)
@@ -106,7 +106,7 @@ impl FiguredRow {
     // The row made 1 at its lowest named member, which is then its pivot; none where no member is named.
     pub(crate) fn with_pivot<F: Field>(&self, n: usize) -> Option<FreshRow>
         requires few { n ≤ 64 }
-        ensures { MatchOption result (NoneNamed n (weights_of self.now.weights)) (λ x. MadeFresh F.model n (figured_row self.now) x) }
+        ensures { MatchOption result (NamesNobody n (weights_of self.now.weights)) (λ x. MadeFresh F.model n (figured_row self.now) x) }
     {
         let pivot = self.lowest_named(n)?;
         let factor = F::inv(self.weights[pivot.0]);
@@ -121,7 +121,7 @@ impl FiguredRow {
 
 impl RecordRow {
     ghost use Rattle.echelon.specs.Rows.{CodedRow};
-    ghost use Rattle.record.specs.Rows.{figured_record_row, row_without, NoOther, FirstOther};
+    ghost use Rattle.record.specs.Rows.{figured_record_row, row_without, LowestOther};
 
     // The lowest member named beside its pivot, once the pivot of `by` is cleared from it. A row that is changed has its
     // pivot below that of `by`, and both are 0 below their pivots.
@@ -132,7 +132,7 @@ impl RecordRow {
         requires by_coded { CodedRow F.model n (figured_record_row by.now) }
         requires lowest { (m : ℕ) → m < self.now.pivot.0 → weights_of self.now.row.weights m ≡ 0 }
         requires by_lowest { (m : ℕ) → m < by.now.pivot.0 → weights_of by.now.row.weights m ≡ 0 }
-        ensures { MatchOption result (NoOther n (row_without F.model by.now self.now) self.now.pivot.0) (λ p. FirstOther n (row_without F.model by.now self.now) self.now.pivot.0 p.0) }
+        ensures { LowestOther n (row_without F.model by.now self.now) self.now.pivot.0 result }
     {
         let factor = self.row.weights[by.pivot.0];
         if factor.0 == 0 {

@@ -2,9 +2,10 @@
 
 use crate::show;
 use crate::show::{Admitted, Judged};
+use checks::CheckedRow;
 use field::{Element, Field};
-use record::{Record, Room};
-use refusal::Member;
+use record::{Admission, Judgement, Record, Room};
+use refusal::{Member, Refusal};
 use shown::{Answered, Refused};
 use std::io;
 
@@ -38,14 +39,26 @@ fn witness<F: Field>(
     }
 }
 
+fn judge<F: Field>(rec: &Record<F>, row: &[Element]) -> Result<Judgement, Refusal> {
+    Ok(rec.judge(&CheckedRow::new(row, rec.count())?))
+}
+
+fn admit<F: Field>(
+    rec: &mut Record<F>,
+    row: &[Element],
+    figure: Element,
+) -> Result<Admission, Refusal> {
+    rec.admit(&CheckedRow::new(row, rec.count())?, figure)
+}
+
 fn one<F: Field>(rt: &HostRuntime, case: &str, rec: &mut Record<F>, ask: Ask) -> io::Result<()> {
     match ask {
         Ask::Rows => show::rows(rt, case, rec),
-        Ask::Judge(row) => { println!(rt; "{case}: {}", Answered(rec.judge(row).map(Judged))) }
+        Ask::Judge(row) => { println!(rt; "{case}: {}", Answered(judge(rec, row).map(Judged))) }
         Ask::Admit(row, figure) => {
             println!(rt;
                 "{case}: {}",
-                Answered(rec.admit(row, figure).map(Admitted))
+                Answered(admit(rec, row, figure).map(Admitted))
             )
         }
         Ask::Witness(member, element, length) => witness(rt, case, rec, member, element, length),

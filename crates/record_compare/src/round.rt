@@ -5,9 +5,10 @@ use crate::given::{Figured, Given};
 use crate::ranks::{plain_verdict, rank_with};
 use crate::rows::{NOBODY, Row, generated};
 use crate::tally::Tally;
+use checks::CheckedRow;
 use field::{Element, Field};
-use record::{Record, Room};
-use refusal::Member;
+use record::{Admission, Judgement, Record, Room};
+use refusal::{Member, Refusal};
 use std::alloc::{AllocError, Global};
 use std::{array, io};
 use trials::{Dice, figure};
@@ -34,6 +35,18 @@ fn witness_fits<F: Field>(rec: &Record<F>, given: &Given, member: usize, element
         && given.fits::<F>(&table)
 }
 
+fn judge<F: Field>(rec: &Record<F>, row: &[Element]) -> Result<Judgement, Refusal> {
+    Ok(rec.judge(&CheckedRow::new(row, rec.count())?))
+}
+
+fn admit<F: Field>(
+    rec: &mut Record<F>,
+    row: &[Element],
+    figure: Element,
+) -> Result<Admission, Refusal> {
+    rec.admit(&CheckedRow::new(row, rec.count())?, figure)
+}
+
 // Gives the record one row; whether all that it answers is as it should be.
 fn give<F: Field>(
     heap: Global,
@@ -45,8 +58,8 @@ fn give<F: Field>(
     let Figured { row, figure } = figured;
     let n = rec.count();
     let expected = plain_verdict::<F>(heap, given.rows(), &row, n)?;
-    let judged = rec.judge(&row[..n]);
-    let admitted = rec.admit(&row[..n], figure);
+    let judged = judge(rec, &row[..n]);
+    let admitted = admit(rec, &row[..n], figure);
     given.take(expected, figured)?;
     let agree = judged == expected.judgement(figure)
         && admitted == expected.admission()

@@ -5,13 +5,22 @@ use Rattle.record.specs.Judged.{Judged, Admitted}
 use Rattle.record.specs.Records.{rec_of}
 use Rattle.record.specs.declared.judge.Judgement.TheVariants.{Fixed}
 use Rattle.record.proofs.Views.{row-elements}
+use Rattle.refusal.specs.declared.Refusal.TheVariants.{Discloses}
+use Rattle.refusal.specs.declared.Site.TheVariants.{OfRow}
+use Rattle.log_record.specs.Joins.{row_with, RefusedAfter}
 use Rattle.log_record.proofs.Verdicts.{pinning, fixed_otherwise, fixed_so, free-joins, admitted}
 use Rattle.log_record.proofs.joining.join_row.Goals as goal
 
+-- the refusal of a row that pins is that of the log's row
 pub returns-in-Pinning-clause-refused : goal.returns-in-Pinning-clause-refused
-returns-in-Pinning-clause-refused g c before B =
+returns-in-Pinning-clause-refused g c =
     let r = c.args.held.now in
+    let discloses :
+    RefusedAfter g.F.Field.model r.count c.args.number (rec_of r) (row_with (row_of c.args.row.now) c.args.figure.0) (Discloses (OfRow c.args.number)) =
+    λ before B.
     pinning g.F.Field.model g.met.F.Field.laws r.count c.args.number before (rec_of r) B (row_of c.args.row.now) (row-elements r c.args.row.now) c.args.figure.0 _ c.in-Pinning.ensures
+    in
+    search (discloses)
 
 pub returns-in-Fixed-clause-refused : goal.returns-in-Fixed-clause-refused
 returns-in-Fixed-clause-refused g c before B =

@@ -1,13 +1,13 @@
 -- Answers for `read_rows`: row after row.
-use Rattle.std.proofs.Common.{ℕ, ◌+◌, ◌≤◌, List, [], ◌∷◌, length, drop, Some, None, sym, ap, ◌∙◌, subst, arith, rules}
+use Rattle.std.proofs.Common.{ℕ, ◌+◌, ◌≤◌, [], ◌∷◌, length, drop, Some, None, sym, ap, ◌∙◌, subst, arith, rules}
 use Rattle.std.specs.Iterator.Adapters.{enumerate_source, enumerate_count}
 use Rattle.std.proofs.lemmas.Result.{err_from_is_err_and}
 use Rattle.checks.specs.CheckedRows.{row_of}
-use Rattle.echelon.specs.Rows.{Figured, row_with}
+use Rattle.echelon.specs.Rows.{row_with}
 use Rattle.record.specs.Records.{rec_of}
 use Rattle.answer_log.proofs.Logs.{read_figure}
 use Rattle.answer_log.proofs.Steps.{whole_still, count-still, left_within, row_read, next-place, row_bad}
-use Rattle.log_record.specs.Joins.{RowsJoin, Recorded, JoinsAfter, RefusedAfter}
+use Rattle.log_record.specs.Joins.{RowsRead, RowsJoin, Recorded, JoinsAfter, RefusedAfter}
 use Rattle.log_record.proofs.Forwards.{rows_done, row-refused, row-kept_out, row-joined}
 use Rattle.log_record.proofs.Verdicts.{nothing_yet}
 use Rattle.log_record.proofs.reading.read_rows.Goals as goal
@@ -55,7 +55,8 @@ returns-in_err-entry g c =
     rw (p.1, p.2)
     (record {
       count = inv.5 ∙ c.count-n.ensures;
-      joins = subst (λ (m : ℕ). RowsJoin M m 0 [] (drop 2 bytes) (Some e) []) c.count-n.ensures all;
+      joins = tt;
+      refused = subst (λ (m : ℕ). RowsJoin M m 0 [] (drop 2 bytes) (Some e) []) c.count-n.ensures all;
     })
 
 pub join_row-requires : goal.join_row-requires
@@ -95,7 +96,8 @@ returns-in_err-join_row g c =
     rw (p.1, p.2)
     (record {
       count = c.join_row.ensures.count ∙ inv.5 ∙ c.count-n.ensures;
-      joins = subst (λ (m : ℕ). RowsJoin M m 0 [] (drop 2 bytes) (Some e) []) c.count-n.ensures all;
+      joins = tt;
+      refused = subst (λ (m : ℕ). RowsJoin M m 0 [] (drop 2 bytes) (Some e) []) c.count-n.ensures all;
     })
 
 pub loop-row-preserved : goal.loop-row-preserved
@@ -151,5 +153,6 @@ returns g c =
     let all = inv.6.2 None before (rows_done M n s.row before bytes s.at done) in
     record {
       count = inv.5 ∙ c.count-n.ensures;
-      joins = subst (λ (m : ℕ). (given : List Figured) × RowsJoin M m 0 [] (drop 2 bytes) None given × Recorded M m given (rec_of c.loop-row.held)) c.count-n.ensures (before, all, inv.6.1);
+      joins = subst (λ (m : ℕ). RowsRead M m bytes (rec_of c.loop-row.held)) c.count-n.ensures (before, all, inv.6.1);
+      refused = tt;
     }

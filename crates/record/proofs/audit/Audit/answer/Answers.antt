@@ -1,7 +1,7 @@
-use Rattle.std.proofs.Common.{◌≡◌, Option, option_map, List, refl, sym, ap, subst, arith}
+use Rattle.std.proofs.Common.{◌≡◌, ◌<◌, Some, Option, option_map, List, refl, sym, ap, subst, arith}
 use Rattle.checks.specs.CheckedRows.{row_of}
 use Rattle.record.specs.Awaits.{Awaits, Awaited}
-use Rattle.record.specs.Audits.{none_open, no_figure, kept, joined}
+use Rattle.record.specs.Audits.{opened, none_open, no_figure, kept, joined}
 use Rattle.record.specs.Records.{rec_of, MayTake}
 use Rattle.record.specs.Judged.{Adds, FitsBoth}
 use Rattle.echelon.specs.Rows.{row_with}
@@ -29,9 +29,14 @@ returns-in_default-fresh-clause-answered g c =
     let awaited = subst (λ (p : Option (OpenRow g.row.F.Denot g.F.Field)). Awaited M r.count (rec_of r) p) c.in-Some.is c.args.self.now.awaited in
     let fixes = subst (λ (o : Option FreshRow). Awaits M r.count (rec_of r) (row_of held.row) o) c.in_default-fresh.is awaited in
     let same : rec_of c.close.new.self.«record» ≡ rec_of r = ap rec_of c.close.ensures.«record» in
-    kept (held.permit, held.row) (ap (option_map (λ p. (p.permit, p.row))) c.in-Some.is) (omega arith) fixes same
-    (subst (λ (rec : List Pivoted). Adds M r.count (rec_of r) (row_with (row_of held.row) c.args.figure.0) rec) (sym same)
-    (kept-adds M g.met.F.Field.laws r.count (rec_of r) _ fixes))
+    let one : opened c.args.self.now ≡ Some (held.permit, held.row) = ap (option_map (λ p. (p.permit, p.row))) c.in-Some.is in
+    let figure : c.args.figure.0 < M.size = omega arith in
+    let adds : Adds M r.count (rec_of r) (row_with (row_of held.row) c.args.figure.0) (rec_of c.close.new.self.«record») =
+    subst (λ (rec : List Pivoted). Adds M r.count (rec_of r) (row_with (row_of held.row) c.args.figure.0) rec) (sym same)
+    (kept-adds M g.met.F.Field.laws r.count (rec_of r) _ fixes)
+    in
+    let known = kept (held.permit, held.row) one figure fixes same adds in
+    search (known)
 
 pub returns-clause-answered : goal.returns-clause-answered
 returns-clause-answered g c =
@@ -46,7 +51,10 @@ returns-clause-answered g c =
     let may = subst (λ (o : Option FreshRow). Awaits M r.count (rec_of r) w o) c.in-Some-fresh.is awaited in
     let same = c.close.ensures.«record» in
     let taken = subst (λ (s : Record g.row.F.Denot g.F.Field). MayTake s w c.in-Some-fresh.fresh) (sym same) (codes, may) in
+    -- the row was taken with its figure
+    let fits : FitsBoth M c.close.new.self.«record».count (rec_of c.close.new.self.«record») h after = search (c.take.ensures.fits w taken) in
+    let adds : Adds M c.close.new.self.«record».count (rec_of c.close.new.self.«record») h after = search (c.take.ensures.adds w taken) in
     joined (held.permit, held.row) (ap (option_map (λ p. (p.permit, p.row))) c.in-Some.is) (omega arith)
     (fresh-not_fixed M g.met.F.Field.laws r.count (rec_of r) r.reduced w codes _ may)
-    (subst (λ (s : Record g.row.F.Denot g.F.Field). FitsBoth M s.count (rec_of s) h after) same (c.take.ensures.fits w taken))
-    (subst (λ (s : Record g.row.F.Denot g.F.Field). Adds M s.count (rec_of s) h after) same (c.take.ensures.adds w taken))
+    (subst (λ (s : Record g.row.F.Denot g.F.Field). FitsBoth M s.count (rec_of s) h after) same fits)
+    (subst (λ (s : Record g.row.F.Denot g.F.Field). Adds M s.count (rec_of s) h after) same adds)

@@ -1,5 +1,7 @@
 use Rattle.std.proofs.Common.{Option, sym, subst}
 use Rattle.checks.specs.CheckedRows.{row_of}
+use Rattle.server.specs.Checks.{Lowest}
+use Rattle.record.specs.Audits.{PinnedBeside}
 use Rattle.record.specs.Awaits.{Awaits}
 use Rattle.record.specs.Records.{rec_of}
 use Rattle.record.specs.declared.rows.FreshRow.{FreshRow}
@@ -8,10 +10,14 @@ use Rattle.record.proofs.Views.{row-elements}
 use Rattle.record.proofs.audit.Audit.open.Goals as goal
 use Rattle.record.proofs.audit.Audit.open.Goals.{in-Fixed, in-Fresh}
 
+-- the member that is answered is the lowest that the row would pin
 pub returns-in-Pinning-clause-pinned : goal.returns-in-Pinning-clause-pinned
 returns-in-Pinning-clause-pinned g c =
     let r = c.args.self.now.«record» in
+    let lowest : Lowest (PinnedBeside g.F.Field.model c.args.self.now (row_of c.args.row)) c.in-Pinning.i.0 =
     stands-pinning g.F.Field.model g.met.F.Field.laws r.count (rec_of r) r.reduced (row_of c.args.row) (row-elements r c.args.row) c.in-Pinning.i c.in-Pinning.ensures
+    in
+    search (lowest)
 
 pub invariant_of-self : goal.invariant_of-self
 invariant_of-self g c =

@@ -1,23 +1,33 @@
-use Rattle.std.proofs.Common.{◌≡◌, ◌+◌, ◌<◌, List, get_or, take, refl, sym, ap, ◌∙◌, subst, add-one, arith, take_all}
+use Rattle.std.proofs.Common.{◌≡◌, ◌+◌, ◌<◌, ◌≤◌, get_or, take, length, refl, sym, ap, ◌∙◌, subst, add-one, arith, take_all}
 use lib.ListN.{length-map}
 use Rattle.echelon.specs.Rows.{Figured}
-use Rattle.echelon.specs.Reduced.{Pivoted}
 use Rattle.echelon.specs.Elimination.{cleared, leftover}
 use Rattle.echelon.proofs.Leftover.{leftover-next}
 use Rattle.record.specs.Rows.{figured_row, pivoted, SameRow}
 use Rattle.record.specs.Records.{rec_of}
-use Rattle.record.specs.Standings.{unfigured}
 use Rattle.checks.specs.CheckedRows.{row_of}
 use Rattle.field.specs.Sums.{Vector}
-use Rattle.field.proofs.Zero.{zero-code}
-use Rattle.record.proofs.Views.{row-elements, facts_of, cleared-same, same_trans, no_record_row, leftover-same}
+use Rattle.record.proofs.Views.{row-elements, facts_of, cleared-same, same_trans, no_record_row, leftover-unfigured}
 use Rattle.record.proofs.record.Record.leftover.Goals as goal
+
+-- every record row was gone over, and the row was taken with the figure 0
+pub returns : goal.returns
+returns g c =
+    let M = g.F.Field.model in
+    let r = c.args.self.now in
+    let all : length (rec_of r) ≤ c.loop-by.by-index = simp length-map (omega (arith, c.as_slice-rows.ensures.len)) in
+    let done = rw (take_all c.loop-by.by-index (rec_of r) all) at c.loop-by.invariant.0 in
+    record {
+      is = leftover-unfigured M r.count (rec_of r) (figured_row c.loop-by.left) _ (row_of c.args.row.now) r.reduced.pivot_below done
+          (λ m b. ap (λ w. w m) c.places.ensures) (omega arith);
+      coded = c.loop-by.invariant.1;
+    }
 
 pub loop-by-init : goal.loop-by-init
 loop-by-init g c =
     let r = c.args.self.now in (
       record { rows = λ m h. refl; figures = refl },
-      (λ m h. subst (λ (w : Vector). w m < g.F.Field.model.size) (sym c.places.ensures) (row-elements r c.args.row.now m h), zero-code g.F.Field.model g.met.F.Field.laws),
+      (λ m h. subst (λ (w : Vector). w m < g.F.Field.model.size) (sym c.places.ensures) (row-elements r c.args.row.now m h), omega (arith, g.met.F.Field.laws.two_elements)),
     )
 
 pub clear-requires : goal.clear-requires
@@ -43,17 +53,3 @@ loop-by-preserved g c =
       subst (λ (h : Figured). SameRow r.count (figured_row c.clear.new.self) h) (sym step) (same_trans c.clear.ensures.is moved),
       c.clear.ensures.coded,
     )
-
-pub returns : goal.returns
-returns g c =
-    let M = g.F.Field.model in
-    let r = c.args.self.now in
-    let start = figured_row (record { weights = c.places.result; figure = record { 0 = 0 } }) in
-    let whole = take_all c.loop-by.by-index (rec_of r) (simp length-map (omega (arith, c.as_slice-rows.ensures.len))) in
-    record {
-      is = same_trans
-          (subst (λ (l : List Pivoted). SameRow r.count (figured_row c.loop-by.left) (leftover M l start)) whole c.loop-by.invariant.0)
-          (leftover-same M r.count (rec_of r) start (unfigured (row_of c.args.row.now)) r.reduced.pivot_below
-          (record { rows = λ m b. ap (λ w. w m) c.places.ensures; figures = refl }));
-      coded = c.loop-by.invariant.1;
-    }
