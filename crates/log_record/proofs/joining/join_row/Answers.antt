@@ -7,7 +7,8 @@ use Rattle.record.specs.declared.judge.Judgement.TheVariants.{Fixed}
 use Rattle.record.proofs.Views.{row-elements}
 use Rattle.refusal.specs.declared.Refusal.TheVariants.{Discloses}
 use Rattle.refusal.specs.declared.Site.TheVariants.{OfRow}
-use Rattle.log_record.specs.Joins.{row_with, RefusedAfter}
+use Rattle.log_record.specs.Joins.{RefusedAfter}
+use Rattle.echelon.specs.Rows.{row_with}
 use Rattle.log_record.proofs.Verdicts.{pinning, fixed_otherwise, fixed_so, free-joins, admitted}
 use Rattle.log_record.proofs.joining.join_row.Goals as goal
 
