@@ -51,7 +51,9 @@ impl RowBytes<'_> {
 
     // How many members the row names.
     fn count_named<F: Field>(&self) -> Result<usize, Refusal>
-        ensures { MatchResult result (λ k. Named self.now.count self.now.bytes.now × (k ≡ named_below (map_of self.now.bytes.now) self.now.count)) (λ e. EntryCheck F.model self.now.count self.now.row self.now.bytes.now (Some e)) }
+        ensures named { OnOk result (Named self.now.count self.now.bytes.now) }
+        ensures count { IfOk result (λ k. k ≡ named_below (map_of self.now.bytes.now) self.now.count) }
+        ensures refused { IfErr result (λ e. EntryCheck F.model self.now.count self.now.row self.now.bytes.now (Some e)) }
     {
         if self.mark() > 1 {
             return Err(Refusal::UnknownMark(self.row));
@@ -72,7 +74,9 @@ impl RowBytes<'_> {
 
     // Where the figure of the row stands, which is its last part.
     fn find_figure<F: Field>(&self) -> Result<usize, Refusal>
-        ensures { MatchResult result (λ p. Framed F.model self.now.count self.now.bytes.now × (p ≡ figure_place F.model self.now.count self.now.bytes.now)) (λ e. EntryCheck F.model self.now.count self.now.row self.now.bytes.now (Some e)) }
+        ensures framed { OnOk result (Framed F.model self.now.count self.now.bytes.now) }
+        ensures place { IfOk result (λ p. p ≡ figure_place F.model self.now.count self.now.bytes.now) }
+        ensures refused { IfErr result (λ e. EntryCheck F.model self.now.count self.now.row self.now.bytes.now (Some e)) }
     {
         let named = self.count_named::<F>()?;
         let mut place = 1 + map_length(self.count);
@@ -103,7 +107,11 @@ impl RowBytes<'_> {
     // The weights of the row, each that is stored an element other than 0.
     fn read_weights<F: Field>(&self) -> Result<[Element; 64], Refusal>
         requires { Framed F.model self.now.count self.now.bytes.now }
-        ensures { MatchResult result (λ ws. (length ws ≡ 64) × ((m : ℕ) → Faulty F.model self.now.count self.now.bytes.now m → ⊥) × ((m : ℕ) → m < self.now.count → weights_of ws m ≡ row_weight F.model self.now.count self.now.bytes.now m) × ((m : ℕ) → self.now.count ≤ m → weights_of ws m ≡ 0)) (λ e. EntryCheck F.model self.now.count self.now.row self.now.bytes.now (Some e)) }
+        ensures long { IfOk result (λ ws. length ws ≡ 64) }
+        ensures no_fault { OnOk result ((m : ℕ) → Faulty F.model self.now.count self.now.bytes.now m → ⊥) }
+        ensures weights { IfOk result (λ ws. (m : ℕ) → m < self.now.count → weights_of ws m ≡ row_weight F.model self.now.count self.now.bytes.now m) }
+        ensures none_past { IfOk result (λ ws. (m : ℕ) → self.now.count ≤ m → weights_of ws m ≡ 0) }
+        ensures refused { IfErr result (λ e. EntryCheck F.model self.now.count self.now.row self.now.bytes.now (Some e)) }
     {
         let mut weights = [Element(0); 64];
         let map = &self.bytes[1..];

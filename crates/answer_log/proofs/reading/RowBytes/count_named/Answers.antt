@@ -6,15 +6,15 @@ use Rattle.record.proofs.Told.{none_told, some_told}
 use Rattle.answer_log.proofs.Readers.{stray_of, none_stray, count_is}
 use Rattle.answer_log.proofs.reading.RowBytes.count_named.Goals as goal
 
-pub returns-then-mark-gt1 : goal.returns-then-mark-gt1
-returns-then-mark-gt1 g c = unknown_mark c.args.self.now.counted (omega (arith, c.mark.ensures))
+pub returns-then-mark-gt1-clause-refused : goal.returns-then-mark-gt1-clause-refused
+returns-then-mark-gt1-clause-refused g c = unknown_mark c.args.self.now.counted (omega (arith, c.mark.ensures))
 
-pub returns-then-self-map_length : goal.returns-then-self-map_length
-returns-then-self-map_length g c =
+pub returns-then-self-map_length-clause-refused : goal.returns-then-self-map_length-clause-refused
+returns-then-self-map_length-clause-refused g c =
     map_cut c.args.self.now.counted (omega (arith, c.mark.ensures)) (omega (arith, c.map_length.ensures))
 
-pub returns-then-is_some : goal.returns-then-is_some
-returns-then-is_some g c =
+pub returns-then-is_some-clause-refused : goal.returns-then-is_some-clause-refused
+returns-then-is_some-clause-refused g c =
     let bs = c.args.self.now.bytes.now in
     let mapped : Mapped c.args.self.now.count bs = record {
       count = c.args.self.now.counted;
@@ -25,8 +25,8 @@ returns-then-is_some g c =
     let stray : Stray (map_of bs) c.args.self.now.count found.0.0 = search (stray_of bs c.args.self.now.count, found.1) in
     stray_bit mapped _ stray
 
-pub returns-then-named-eq0 : goal.returns-then-named-eq0
-returns-then-named-eq0 g c =
+pub returns-then-named-eq0-clause-refused : goal.returns-then-named-eq0-clause-refused
+returns-then-named-eq0-clause-refused g c =
     let bs = c.args.self.now.bytes.now in
     let mapped : Mapped c.args.self.now.count bs = record {
       count = c.args.self.now.counted;

@@ -10,8 +10,8 @@ use Rattle.answer_log.proofs.reading.RowBytes.read_weights.Goals.{then-is_named+
 pub loop-m-init : goal.loop-m-init
 loop-m-init g c = (refl, λ k h. absurd (omega arith), λ k h. absurd (omega arith), λ k h. zeros 64 k)
 
-pub returns-in_err-weights : goal.returns-in_err-weights
-returns-in_err-weights g c =
+pub returns-in_err-weights-clause-refused : goal.returns-in_err-weights-clause-refused
+returns-in_err-weights-clause-refused g c =
     let M = g.F.Field.model in
     let bs = c.args.self.now.bytes.now in
     let n = c.args.self.now.count in

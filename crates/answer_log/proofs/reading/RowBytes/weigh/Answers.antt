@@ -22,8 +22,8 @@ returns-then-is_plain-clause-refused g c =
     let ws = c.in_ok-weights.weights in
     let fine = c.in_ok-weights.ensures in
     let tested : c.is_plain.result ≡ plain (weights_of ws) (length ws) = search (c.is_plain.ensures) in
-    needless_weights c.requires fine.1 (is_weighted bs _ c.mark.ensures c.if-mark-eq1.true)
-    (sym (plain_read g.F.Field.model n bs (weights_of ws) (length ws) (omega (arith, c.requires.named.mapped.count, fine.0)) fine.2 fine.3)
+    needless_weights c.requires fine.no_fault (is_weighted bs _ c.mark.ensures c.if-mark-eq1.true)
+    (sym (plain_read g.F.Field.model n bs (weights_of ws) (length ws) (omega (arith, c.requires.named.mapped.count, fine.long)) fine.weights fine.none_past)
     ∙ sym tested ∙ c.if-is_plain.true)
 
 -- the weights that were read are in order
@@ -38,12 +38,12 @@ weighed g c =
     elim c.else-mark-eq1.branch [
       | else-mark-eq1-via-then-mark-eq1+else-is_plain v ↦
           let tested : v.is_plain.result ≡ plain (weights_of ws) (length ws) = search (v.is_plain.ensures) in
-          sym (plain_read M n bs (weights_of ws) (length ws) (omega (arith, c.requires.named.mapped.count, fine.0)) fine.2 fine.3)
+          sym (plain_read M n bs (weights_of ws) (length ws) (omega (arith, c.requires.named.mapped.count, fine.long)) fine.weights fine.none_past)
           ∙ sym tested ∙ v.if-is_plain.false
       | else-mark-eq1-via-else-mark-eq1 v ↦
           absurd (both_ways _ (not_weighted bs _ c.mark.ensures v.if-mark-eq1.false) e)
     ]
-    in record { framed = c.requires; no_fault = fine.1; needed = needed }
+    in record { framed = c.requires; no_fault = fine.no_fault; needed = needed }
 
 pub unwrap-requires : goal.unwrap-requires
 unwrap-requires g c =
@@ -51,8 +51,8 @@ unwrap-requires g c =
     let n = c.args.self.now.count in
     let ws = c.in_ok-weights.weights in
     let fine = c.in_ok-weights.ensures in
-    let long : n ≤ length ws = omega (arith, c.requires.named.mapped.count, fine.0) in
-    let passed = cut_passes M g.met.F.Field.laws n c.args.self.now.bytes.now ws (weighed g c) long fine.2 in
+    let long : n ≤ length ws = omega (arith, c.requires.named.mapped.count, fine.long) in
+    let passed = cut_passes M g.met.F.Field.laws n c.args.self.now.bytes.now ws (weighed g c) long fine.weights in
     made_ok M c.from-count.result _ c.new.result (subst Count (sym c.from-count.ensures) c.requires.named.mapped.count)
     (subst (λ (k : ℕ). RowCheck M k (take k ws) None) (sym c.from-count.ensures) passed) c.new.ensures.made
 
@@ -63,7 +63,7 @@ returns g c =
     let n = c.args.self.now.count in
     let ws = c.in_ok-weights.weights in
     let fine = c.in_ok-weights.ensures in
-    let long : n ≤ length ws = omega (arith, c.requires.named.mapped.count, fine.0) in
+    let long : n ≤ length ws = omega (arith, c.requires.named.mapped.count, fine.long) in
     let well = weighed g (goal.at.returns g c).After-new in
     let row : row_of c.unwrap.result ≡ weights_of (take c.from-count.result ws) =
     subst (λ (r : Result (CheckedRow g.row.F.Denot g.F.Field) Refusal). IfOk r (λ w. row_of w ≡ weights_of (take c.from-count.result ws)))
@@ -76,7 +76,7 @@ returns g c =
       weighed = well;
       row = λ m h.
           ap (λ w. w m) (row ∙ ap (λ k. weights_of (take k ws)) c.from-count.ensures)
-          ∙ cut_same_weight M g.met.F.Field.laws n bs ws well long fine.2 m h;
+          ∙ cut_same_weight M g.met.F.Field.laws n bs ws well long fine.weights m h;
       count = count ∙ c.from-count.ensures;
       refused = tt;
     }
