@@ -25,7 +25,7 @@ returns c =
     let done = written_line _ _ _ _ _ c.write_stop.ensures c.unwrap-length.ensures in
     let count = done.1.count in
     let rest = rest-length xs a in
-    line_after _ xs _ _ _ _ (stop_line_lem (number x.refusal) x.line) a _ _ c.truncate-2.ensures.items
+    line_after _ xs _ _ _ _ (stop_line_lem (number x.refusal) x.line) a _ c.unwrap-length.result _ c.truncate-2.ensures.items (omega arith)
     (omega (arith, c.requires, c.deref_mut.ensures.len, done.0)) (omega (arith, c.requires, c.deref_mut.ensures.len)) done.1
     ∙ ap (λ (us : List ℕ). take a us ++ stop_line_lem (number x.refusal) x.line) c.deref_mut.ensures.value
     ∙ ap (λ (s : Option Stop). take a c.args.printed.now.items ++ stop_text s) (sym c.in-Some.is)
