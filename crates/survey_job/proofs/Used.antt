@@ -7,9 +7,9 @@ use Rattle.replay_text.specs.declared.outcome.Replay.{Replay}
 use Rattle.replay_text.specs.Replays.{Replayed, too_long, no_header, replayed}
 
 pub answers_within :
-    (M : FieldModel) (σ : State) (text answers log : List ℕ) (r : Replay) (es : List Event) (τ : State) (answers' log' : List ℕ) (room : ℕ)
-    → Replayed M σ text answers log r es τ answers' log' → length answers' ≡ length answers → length answers ≡ room → r.answers ≤ room
-answers_within M σ text answers log _ _ _ _ _ room (too_long l) same is = omega arith
-answers_within M σ text answers log _ _ _ _ _ room (no_header l g) same is = omega arith
-answers_within M σ text answers log _ _ _ _ _ room (replayed l g k done rest es τ out parts lines e stops) same is =
+    (M : FieldModel) (σ : State) (text answers log : List ℕ) (r : Replay) (es : List Event) (τ : State) (answers' log' : List ℕ)
+    → Replayed M σ text answers log r es τ answers' log' → length answers' ≡ length answers → r.answers ≤ length answers
+answers_within M σ text answers log _ _ _ _ _ (too_long l) same = omega arith
+answers_within M σ text answers log _ _ _ _ _ (no_header l g) same = omega arith
+answers_within M σ text answers log _ _ _ _ _ (replayed l g k done rest es τ out parts lines e stops) same =
     let whole = length-append out (drop (length out) answers) in omega arith

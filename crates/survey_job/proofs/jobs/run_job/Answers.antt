@@ -1,7 +1,8 @@
 -- Answers for `run_job`: by the file's check.
-use Rattle.std.proofs.Common.{List, ℕ, Some, sym, subst, arith, vec_items}
+use Rattle.std.proofs.Common.{◌≡◌, ℕ, List, [], Some, vec_items, sym, subst, arith}
 use Rattle.refusal.specs.Numbered.{number, detail}
 use Rattle.answer_text.specs.AnswerLines.{refusal_line_lem}
+use Rattle.table_file.specs.Views.{view_table}
 use Rattle.survey_job.specs.Jobs.{Printed, Replays, refused, replayed}
 use Rattle.survey_job.proofs.FileFaults.{small_detail}
 use Rattle.survey_job.proofs.jobs.run_job.Goals as goal
@@ -17,13 +18,17 @@ returns-in-Ok g c =
     let file = c.in-Ok.ensures in
     let out = vec_items c.replay_new.result.printed in
     let log = vec_items c.replay_new.result.log in
-    replayed file.0 out log (subst (λ (T : List ℕ). Replays M T c.args.text.now out log) file.1 c.replay_new.ensures)
+    let done : Replays M (view_table M c.in-Ok.server) c.args.text.now out log = search (c.replay_new.ensures) in
+    replayed file.0 out log (subst (λ (T : List ℕ). Replays M T c.args.text.now out log) file.1 done)
 
 pub returns-in-Err : goal.returns-in-Err
 returns-in-Err g c =
     let M = g.F.Field.model in
     let e = c.in-Err.refusal in
     let line = refusal_line_lem (number e) (detail e) in
-    let told = c.refuse.ensures in
-    subst (λ (out : List ℕ). Printed M c.args.table.now c.args.text.now out (vec_items c.refuse.result.log)) (sym told.printed)
-    (subst (λ (log : List ℕ). Printed M c.args.table.now c.args.text.now line log) (sym told.log) (refused e c.in-Err.ensures))
+    let out = vec_items c.refuse.result.printed in
+    let log = vec_items c.refuse.result.log in
+    let told : out ≡ line = search (c.refuse.ensures) in
+    let empty : log ≡ [] = search (c.refuse.ensures) in
+    subst (λ (xs : List ℕ). Printed M c.args.table.now c.args.text.now xs log) (sym told)
+    (subst (λ (xs : List ℕ). Printed M c.args.table.now c.args.text.now line xs) (sym empty) (refused e c.in-Err.ensures))
