@@ -4,6 +4,7 @@
 --   logged M σ es            the log of the rows that the events es answer, from the state σ on
 --   Lines M σ room log_room k text es τ out   the text is k whole lines, each handled in turn with room enough before it;
 --                            the events es of their calls lead from the state σ to τ, and `out` is printed
+--   FirstLine rest room log_room line after   the rest begins with the line, `after` follows its newline, and there is room for the line
 --   Stops rest room log_room e   why no line of the rest is handled, where so many bytes are left: a stop, or none at the text's end
 --   stop_number_lem, stop_line_lem   a stop as two numbers, both 0 where there is none
 --   Replayed M σ text answers log r es τ answers' log'   what the replay of a text answers and leaves, in the state σ
@@ -43,6 +44,10 @@ pub data Lines (M : FieldModel) (σ : State) (room log_room : ℕ) : ℕ → Lis
       → (line : List ℕ) → NoNewline line → (a : Option Told) (new : List Event) (τ' : State)
       → Handled M (length τ.table) line a new → Lawful M τ new τ'
       → Lines M σ room log_room (k + 1) (text ++ (line ++ (10 ∷ []))) (es ++ new) τ' (out ++ printed (k + 1) a)
+
+abbrev pub FirstLine : (rest : List ℕ) (room log_room : ℕ) (line after : List ℕ) → Type 0
+FirstLine rest room log_room line after =
+    (392 ≤ room) × (139 ≤ log_room) × NoNewline line × (rest ≡ line ++ (10 ∷ after))
 
 pub data Stops (rest : List ℕ) (room log_room : ℕ) : Option Refusal → Type 0 where
   at_the_end : length rest ≡ 0 → Stops rest room log_room None

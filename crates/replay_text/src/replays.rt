@@ -1,9 +1,9 @@
 // A whole replay.
-ghost use Rattle.std.specs.Prelude.{◌≡◌, ◌≤◌, ◌∷◌, ◌++◌, length, Some, IfSome, MatchResult};
+ghost use Rattle.std.specs.Prelude.{◌≡◌, ◌≤◌, length, Some, IfSome, MatchResult};
 ghost use Rattle.buffer.specs.Buffers.{Front};
 ghost use Rattle.answer_log.specs.Rows.{header_bytes};
 ghost use Rattle.session.specs.States.{server_of, members_of};
-ghost use Rattle.replay_text.specs.Replays.{NoNewline, Stops};
+ghost use Rattle.replay_text.specs.Replays.{FirstLine, Stops};
 ghost use Rattle.replay_text.specs.Handling.{Replays};
 
 use crate::lines::handle_line;
@@ -24,7 +24,7 @@ const LOG_ROOM: usize = 139;
 // The first line of what is left of a text and the rest after it, if there is room enough to handle the line.
 fn first_line(rest: &[u8], room: usize, log_room: usize) -> Result<(&[u8], &[u8]), Refusal>
     requires { 1 ≤ length rest.now }
-    ensures { MatchResult result (λ p. (392 ≤ room) × (139 ≤ log_room) × NoNewline p.0.now × (rest.now ≡ p.0.now ++ (10 ∷ p.1.now))) (λ e. Stops rest.now room log_room (Some e)) }
+    ensures { MatchResult result (λ p. FirstLine rest.now room log_room p.0.now p.1.now) (λ e. Stops rest.now room log_room (Some e)) }
 {
     if room < ANSWER_ROOM {
         return Err(Refusal::AnswersFull);

@@ -1,5 +1,5 @@
 // A replay over a new session.
-ghost use Rattle.survey_job.specs.Jobs.{Replays};
+ghost use Rattle.survey_job.specs.Jobs.{ReplaysOver};
 
 use crate::memory::{JobMemory, ROOM};
 use crate::stops::print_stop;
@@ -17,7 +17,7 @@ pub struct Job {
 // Begins a session on the server, replays the text over it, and adds the line of a stop to the
 // answers.
 pub(crate) fn replay_new<S: Server>(memory: JobMemory, server: &S, text: &[u8]) -> Job
-    ensures { Replays S.Over.Field.model (S.Server.table server.now) text.now result.printed.items result.log.items }
+    ensures { ReplaysOver S.Server S.Over.Field server.now text.now result }
 {
     let JobMemory {
         room,
