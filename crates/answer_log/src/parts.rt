@@ -3,7 +3,7 @@ ghost use Rattle.std.specs.Prelude.{◌≡◌, ℕ, ◌<◌, ◌≤◌, ◌++◌
 ghost use Rattle.field.specs.Sums.{Codes, weights_of};
 ghost use Rattle.member_map.specs.Maps.{map_length_lem};
 ghost use Rattle.buffer.specs.Buffers.{onto};
-ghost use Rattle.answer_log.specs.Rows.{names, mark as mark-of-row, plain, map_byte_lem, map_bytes, weight_bytes, stored_bytes, row_bytes};
+ghost use Rattle.answer_log.specs.Rows.{names, mark as mark-of-row, plain, map_byte_lem, map_onto, weight_bytes, stored_bytes, row_bytes};
 
 use field::{Element, Field, element_width, encode};
 use member_map::map_length;
@@ -77,7 +77,7 @@ impl<F: Field> Row<'_, F> {
     // Writes the member map to the front of `out`.
     fn write_map(&self, out: &mut [u8])
         requires { map_length_lem (length self.now.weights.now) ≤ length out.old }
-        ensures { out.new ≡ map_bytes (weights_of self.now.weights.now) (length self.now.weights.now) ++ drop (map_length_lem (length self.now.weights.now)) out.old }
+        ensures { out.new ≡ map_onto (weights_of self.now.weights.now) (length self.now.weights.now) out.old }
     {
         let map = &mut out[..map_length(self.weights.len() as u8)];
         for (k, byte) in map.iter_mut().enumerate() {
