@@ -1,5 +1,5 @@
 -- A row that passed its checks, and is written. Assumes nothing.
-use Rattle.std.proofs.Common.{◌≡◌, ℕ, ◌<◌, ◌≤◌, ap₂, List, length, drop, Some, None, Option, MatchResult, sym, ap, ◌∙◌, subst}
+use Rattle.std.proofs.Common.{◌≡◌, ℕ, ◌<◌, ◌≤◌, ap₂, List, length, drop, Some, None, Option, OnOk, IfOk, OnErr, IfErr, sym, ap, ◌∙◌, subst}
 use Rattle.std.specs.Option.{ok_or}
 use Rattle.refusal.specs.declared.LogRow.{LogRow}
 use Rattle.refusal.specs.declared.Refusal.TheVariants.{LogFull}
@@ -39,7 +39,7 @@ module _ (M : FieldModel) (n : ℕ) (w : Vector) (ws : List Element) (long : len
 -- a header that is written, or has too little room
 pub header_written :
     (M : FieldModel) (n : ℕ) → Count n → (before after : List ℕ) (r : Option ℕ) → Writes (header_bytes M n) before after r
-    → MatchResult (ok_or r LogFull) (λ k. HeaderWrite n (length before) None × Put (header_bytes M n) before after k)
-    (λ e. HeaderWrite n (length before) (Some e) × (after ≡ before))
-header_written M n count before after None w = (log_full count w.0, w.1)
-header_written M n count before after (Some k) w = (accepted count w.0, w.1)
+    → OnOk (ok_or r LogFull) (HeaderWrite n (length before) None) × IfOk (ok_or r LogFull) (Put (header_bytes M n) before after)
+    × IfErr (ok_or r LogFull) (λ e. HeaderWrite n (length before) (Some e)) × OnErr (ok_or r LogFull) (after ≡ before)
+header_written M n count before after None w = (tt, tt, log_full count w.0, w.1)
+header_written M n count before after (Some k) w = (accepted count w.0, w.1, tt, tt)

@@ -2,13 +2,14 @@
 --   header_bytes M n      the header: kind and count
 --   names w m             the row with the weights w names member m
 --   map_byte_lem, map_bytes   a byte of the member map; the whole map of n members
+--   map_onto w n out      a buffer with the map at its front
 --   plain w n             every weight of the n members is 0 or 1
 --   weight_bytes M w n    the weights of the named members below n, in rising order
 --   stored_bytes M w n    those weights where they are stored, none for a plain row
 --   mark w n              the mark byte: 0 for a plain row, else 1
 --   row_bytes M n w f     a row: mark, map, weights unless the row is plain, figure
 -- The weights of a row are 0 from the count on. Assumes nothing.
-use Rattle.std.specs.Prelude.{ℕ, zero, suc, ◌+◌, ◌*◌, ◌^◌, Bool, true, cond, not, ◌&&◌, List, [], ◌∷◌, ◌++◌, map, ◌==◌, nat_le}
+use Rattle.std.specs.Prelude.{ℕ, zero, suc, ◌+◌, ◌*◌, ◌^◌, Bool, true, cond, not, ◌&&◌, List, [], ◌∷◌, ◌++◌, map, drop, ◌==◌, nat_le}
 use Rattle.std.specs.List.{range_with_len}
 use Rattle.field.specs.Model.{FieldModel}
 use Rattle.field.specs.Bytes.{written}
@@ -31,6 +32,9 @@ map_byte_lem w k = bits (λ b. names w (8 * k + b)) 8
 
 unfoldable pub map_bytes : Vector → ℕ → List ℕ
 map_bytes w n = map (map_byte_lem w) (range_with_len 0 (map_length_lem n))
+
+abbrev pub map_onto : Vector → ℕ → List ℕ → List ℕ
+map_onto w n out = map_bytes w n ++ drop (map_length_lem n) out
 
 unfoldable pub plain : Vector → ℕ → Bool
 plain w zero = true

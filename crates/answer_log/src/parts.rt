@@ -3,7 +3,7 @@ ghost use Rattle.std.specs.Prelude.{◌≡◌, ℕ, ◌<◌, ◌≤◌, ◌++◌
 ghost use Rattle.field.specs.Sums.{Codes, weights_of};
 ghost use Rattle.member_map.specs.Maps.{map_length_lem};
 ghost use Rattle.buffer.specs.Buffers.{onto};
-ghost use Rattle.answer_log.specs.Rows.{names, mark as mark-of-row, plain, map_byte_lem, map_bytes, weight_bytes, stored_bytes, row_bytes};
+ghost use Rattle.answer_log.specs.Rows.{names, mark as mark-of-row, plain, map_byte_lem, map_onto};
 
 use field::{Element, Field, element_width, encode};
 use member_map::map_length;
@@ -48,15 +48,17 @@ fn map_byte(weights: &[Element], k: usize) -> u8
 }
 
 impl<F: Field> Row<'_, F> {
+    ghost use Rattle.answer_log.specs.Parts.{weights_in, members_in, named_in, stored_in, bytes_in};
+
     fn mark(&self) -> u8
-        ensures { result ≡ mark-of-row (weights_of self.now.weights.now) (length self.now.weights.now) }
+        ensures { result ≡ mark-of-row (weights_in self.now) (members_in self.now) }
     {
         if is_plain(self.weights) { 0 } else { 1 }
     }
 
     // How many bytes the stored weights take.
     fn stored_length(&self) -> usize
-        ensures is { result ≡ length (stored_bytes F.model (weights_of self.now.weights.now) (length self.now.weights.now)) }
+        ensures is { result ≡ length (stored_in F.model self.now) }
         ensures few { result ≤ 128 }
     {
         if is_plain(self.weights) {
@@ -68,7 +70,7 @@ impl<F: Field> Row<'_, F> {
 
     // How many bytes the row has.
     pub(crate) fn length(&self) -> usize
-        ensures { result ≡ length (row_bytes F.model (length self.now.weights.now) (weights_of self.now.weights.now) self.now.figure.0) }
+        ensures { result ≡ length (bytes_in F.model self.now) }
     {
         let map = map_length(self.weights.len() as u8);
         1 + map + self.stored_length() + element_width::<F>()
@@ -76,8 +78,8 @@ impl<F: Field> Row<'_, F> {
 
     // Writes the member map to the front of `out`.
     fn write_map(&self, out: &mut [u8])
-        requires { map_length_lem (length self.now.weights.now) ≤ length out.old }
-        ensures { out.new ≡ map_bytes (weights_of self.now.weights.now) (length self.now.weights.now) ++ drop (map_length_lem (length self.now.weights.now)) out.old }
+        requires { map_length_lem (members_in self.now) ≤ length out.old }
+        ensures { out.new ≡ map_onto (weights_in self.now) (members_in self.now) out.old }
     {
         let map = &mut out[..map_length(self.weights.len() as u8)];
         for (k, byte) in map.iter_mut().enumerate() {
@@ -87,9 +89,9 @@ impl<F: Field> Row<'_, F> {
 
     // Writes the weights of the named members to the front of `out`, and answers how many bytes they take.
     fn write_weights(&self, out: &mut [u8]) -> usize
-        requires { length (weight_bytes F.model (weights_of self.now.weights.now) (length self.now.weights.now)) ≤ length out.old }
-        ensures length { result ≡ length (weight_bytes F.model (weights_of self.now.weights.now) (length self.now.weights.now)) }
-        ensures buffer { out.new ≡ weight_bytes F.model (weights_of self.now.weights.now) (length self.now.weights.now) ++ drop result out.old }
+        requires { length (named_in F.model self.now) ≤ length out.old }
+        ensures length { result ≡ length (named_in F.model self.now) }
+        ensures buffer { out.new ≡ named_in F.model self.now ++ drop result out.old }
     {
         // Tried, and not proved: the named weights zipped with `out.chunks_exact_mut(width)`. The check could not state that
         // loop's invariant, and after such parts a proof knows the buffer's length alone. So the rest is lent for each weight.
@@ -104,9 +106,9 @@ impl<F: Field> Row<'_, F> {
 
     // Writes the stored weights to the front of `out`, and answers how many bytes they take.
     fn write_stored(&self, out: &mut [u8]) -> usize
-        requires { length (stored_bytes F.model (weights_of self.now.weights.now) (length self.now.weights.now)) ≤ length out.old }
-        ensures length { result ≡ length (stored_bytes F.model (weights_of self.now.weights.now) (length self.now.weights.now)) }
-        ensures buffer { out.new ≡ stored_bytes F.model (weights_of self.now.weights.now) (length self.now.weights.now) ++ drop result out.old }
+        requires { length (stored_in F.model self.now) ≤ length out.old }
+        ensures length { result ≡ length (stored_in F.model self.now) }
+        ensures buffer { out.new ≡ stored_in F.model self.now ++ drop result out.old }
     {
         if is_plain(self.weights) {
             return 0;
@@ -116,8 +118,8 @@ impl<F: Field> Row<'_, F> {
 
     // Writes the row to the front of `out`, which has room for it.
     pub(crate) fn put(&self, out: &mut [u8])
-        requires { length (row_bytes F.model (length self.now.weights.now) (weights_of self.now.weights.now) self.now.figure.0) ≤ length out.old }
-        ensures { out.new ≡ onto (row_bytes F.model (length self.now.weights.now) (weights_of self.now.weights.now) self.now.figure.0) out.old }
+        requires { length (bytes_in F.model self.now) ≤ length out.old }
+        ensures { out.new ≡ onto (bytes_in F.model self.now) out.old }
     {
         out[0] = self.mark();
         self.write_map(&mut out[1..]);

@@ -1,5 +1,5 @@
 // A whole log: checked, and written again.
-ghost use Rattle.std.specs.Prelude.{◌≡◌, ◌≤◌, length, take, drop, Some, None, MatchResult};
+ghost use Rattle.std.specs.Prelude.{◌≡◌, ◌≤◌, length, take, drop, Some, None, OnOk, IfOk, OnErr, IfErr};
 ghost use Rattle.buffer.specs.Buffers.{Put, Front, onto};
 ghost use Rattle.answer_log.specs.Logs.{RowsCheck, LogCheck, RewriteCheck};
 
@@ -13,7 +13,8 @@ use std::marker::PhantomData;
 
 // Checks a log, header and rows, for a server of `n` members.
 pub fn check_log<F: Field>(bytes: &[u8], n: usize) -> Result<(), Refusal>
-    ensures { MatchResult result (λ _. LogCheck F.model n bytes.now None) (λ e. LogCheck F.model n bytes.now (Some e)) }
+    ensures passed { OnOk result (LogCheck F.model n bytes.now None) }
+    ensures refused { IfErr result (λ e. LogCheck F.model n bytes.now (Some e)) }
 {
     read_header::<F>(bytes, n)?;
     for entry in LogRows::<F>::new(bytes, n) {
@@ -47,7 +48,10 @@ fn rewrite_rows<F: Field>(bytes: &[u8], n: usize, out: &mut [u8])
 
 // Reads a log and writes header and rows again, to the front of `out`: the same bytes. Answers how many.
 pub fn rewrite<F: Field>(bytes: &[u8], n: usize, out: &mut [u8]) -> Result<usize, Refusal>
-    ensures { MatchResult result (λ k. RewriteCheck F.model n bytes.now (length out.old) None × Put bytes.now out.old out.new k) (λ e. RewriteCheck F.model n bytes.now (length out.old) (Some e) × (out.new ≡ out.old)) }
+    ensures written { OnOk result (RewriteCheck F.model n bytes.now (length out.old) None) }
+    ensures bytes { IfOk result (λ k. Put bytes.now out.old out.new k) }
+    ensures refused { IfErr result (λ e. RewriteCheck F.model n bytes.now (length out.old) (Some e)) }
+    ensures kept { OnErr result (out.new ≡ out.old) }
 {
     check_log::<F>(bytes, n)?;
     if out.len() < bytes.len() {

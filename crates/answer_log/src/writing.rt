@@ -1,5 +1,5 @@
 // Writing a log: the header, and row after row. The caller lends the rest of the log's buffer.
-ghost use Rattle.std.specs.Prelude.{◌≡◌, length, Some, None, OnOk, IfOk, OnErr, IfErr, MatchResult};
+ghost use Rattle.std.specs.Prelude.{◌≡◌, length, Some, None, OnOk, IfOk, OnErr, IfErr};
 ghost use Rattle.refusal.specs.declared.LogRow.{LogRow};
 ghost use Rattle.checks.specs.CheckedRows.{row_of};
 ghost use Rattle.buffer.specs.Buffers.{Put};
@@ -17,7 +17,10 @@ use std::marker::PhantomData;
 
 // Writes the header of a log of `n` members, and answers how many bytes it has.
 pub fn write_header<F: Field>(n: usize, out: &mut [u8]) -> Result<usize, Refusal>
-    ensures { MatchResult result (λ k. HeaderWrite n (length out.old) None × Put (header_bytes F.model n) out.old out.new k) (λ e. HeaderWrite n (length out.old) (Some e) × (out.new ≡ out.old)) }
+    ensures written { OnOk result (HeaderWrite n (length out.old) None) }
+    ensures bytes { IfOk result (λ k. Put (header_bytes F.model n) out.old out.new k) }
+    ensures refused { IfErr result (λ e. HeaderWrite n (length out.old) (Some e)) }
+    ensures kept { OnErr result (out.new ≡ out.old) }
 {
     if !is_count(n) {
         return Err(Refusal::WrongCount);

@@ -1,11 +1,10 @@
 -- What a new session answered is in order. Assumes nothing.
-use Rattle.std.proofs.Common.{◌≡◌, ℕ, ◌<◌, List, [], ◌∷◌, ◌++◌, length, None, Option, sym, refl, subst}
+use Rattle.std.proofs.Common.{ℕ, List, length, Option, sym, refl, subst}
 use Rattle.field.specs.Model.{FieldModel, FieldLaws}
-use Rattle.field.specs.Sums.{Vector, sum}
-use Rattle.server.specs.Tables.{Table, value_at}
-use Rattle.echelon.specs.Rows.{Figured}
+use Rattle.field.specs.Sums.{sum}
+use Rattle.server.specs.Tables.{value_at}
 use Rattle.echelon.proofs.Codes.{sum_below}
-use Rattle.law.specs.States.{OpenRow, State, new_state, Event, with_figure, after}
+use Rattle.law.specs.States.{OpenRow, State, Event, with_figure, after}
 use Rattle.law.specs.Law.{Due, refuses, grants, figures, takes_back, fills, Lawful, ends, goes_on}
 use Rattle.law.specs.Sound.{Sound, TrueFigures}
 use Rattle.law.proofs.Facts.{stays_sound_lem, new_is_sound_lem, true_after, last_table}

@@ -6,7 +6,6 @@ use Rattle.field.specs.Model.{FieldModel, FieldLaws}
 use Rattle.field.specs.Sums.{Vector}
 use Rattle.member_map.specs.Maps.{named}
 use Rattle.answer_log.specs.Entries.{map_of, Weighed, EntryCheck, accepted, Reads}
-use Rattle.checks.specs.Rows.{IsRow}
 use Rattle.answer_log.proofs.Logs.{weight-below}
 use Rattle.answer_log.proofs.Passing.{none_counted}
 use Rattle.echelon.specs.Rows.{row_with}

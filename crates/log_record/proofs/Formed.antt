@@ -1,9 +1,8 @@
 -- A log that is accepted with its record is in order byte by byte. Assumes nothing.
-use Rattle.std.proofs.Common.{◌≡◌, ℕ, ◌+◌, List, [], ◌∷◌, drop, Some, None, Ok, Err, Option, Result, sym, refl, subst, arith, MatchResult}
+use Rattle.std.proofs.Common.{◌≡◌, ℕ, ◌+◌, List, [], ◌∷◌, drop, Some, None, Ok, Err, Option, Result, sym, refl, subst, arith, OnOk, IfErr}
 use Rattle.refusal.specs.declared.Refusal.{Refusal}
 use Rattle.field.specs.Model.{FieldModel}
 use Rattle.echelon.specs.Rows.{Figured, row_with}
-use Rattle.buffer.specs.Buffers.{Put}
 use Rattle.answer_log.specs.Logs as logs
 use Rattle.answer_log.specs.Logs.{RowsCheck, LogCheck, RewriteCheck}
 use Rattle.answer_log.proofs.Logs.{excluded}
@@ -43,9 +42,11 @@ module _ (M : FieldModel) (n : ℕ) where
     again o (logs.accepted fine wide) = rewritten given accepted wide
 
     -- what the rewriting of its bytes answers
-    pub rewritten_again :
-        (r : Result ℕ Refusal) (out out' : List ℕ)
-        → MatchResult r (λ k. RewriteCheck M n bs room None × Put bs out out' k) (λ d. RewriteCheck M n bs room (Some d) × (out' ≡ out))
-        → MatchResult r (λ k. Rewrites M n bs room None × Put bs out out' k) (λ d. Rewrites M n bs room (Some d) × (out' ≡ out))
-    rewritten_again (Ok k) out out' p = (again None p.0, p.1)
-    rewritten_again (Err d) out out' p = (again (Some d) p.0, p.1)
+    pub written_again : (r : Result ℕ Refusal) → OnOk r (RewriteCheck M n bs room None) → OnOk r (Rewrites M n bs room None)
+    written_again (Ok k) check = again None check
+    written_again (Err d) check = tt
+
+    pub refused_again :
+        (r : Result ℕ Refusal) → IfErr r (λ d. RewriteCheck M n bs room (Some d)) → IfErr r (λ d. Rewrites M n bs room (Some d))
+    refused_again (Ok k) check = tt
+    refused_again (Err d) check = again (Some d) check

@@ -2,7 +2,7 @@
 use Rattle.std.proofs.Common.{◌≡◌, ℕ, ◌+◌, List, [], ◌∷◌, ◌++◌, length, drop, None, sym, ap, ◌∙◌, subst}
 use native.Mathlib.Decide.{ℕ_discrete}
 use Rattle.refusal.specs.declared.LogRow.{LogRow}
-use Rattle.field.specs.Model.{FieldModel, FieldLaws}
+use Rattle.field.specs.Model.{FieldModel}
 use Rattle.field.specs.Sums.{Vector, Codes, sum}
 use Rattle.server.specs.Tables.{value_at}
 use Rattle.echelon.specs.Rows.{Figured, rows_of, Fits, Fixes, row_with}

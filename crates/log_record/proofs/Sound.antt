@@ -1,11 +1,11 @@
 -- The rows of a log are those of a sound state. Assumes nothing.
-use Rattle.std.proofs.Common.{ℕ, ◌+◌, ◌<◌, ◌≤◌, List, [], ◌∷◌, length, drop, None, Some, Option, arith}
+use Rattle.std.proofs.Common.{ℕ, ◌+◌, ◌<◌, List, [], ◌∷◌, length, drop, None, Some, Option, arith}
 use Rattle.refusal.specs.declared.Refusal.{Refusal}
 use Rattle.refusal.specs.declared.LogRow.{LogRow}
 use Rattle.field.specs.Model.{FieldModel, FieldLaws}
 use Rattle.server.specs.Tables.{Table}
 use Rattle.echelon.specs.Rows.{Figured, rows_of, Pins, row_with}
-use Rattle.law.specs.States.{log_state, new_state}
+use Rattle.law.specs.States.{log_state}
 use Rattle.law.specs.Sound.{RowFine, AllFine, Sound}
 use Rattle.law.proofs.Facts.{not_open, new_is_sound_lem}
 use Rattle.log_record.specs.Joins.{JoinCheck, joins, RowsJoin, no_more, bad_row, kept_out, next_row, LogRecord, bad_header, rows}

@@ -1,5 +1,5 @@
 // A log that is accepted, written again: the check that an office runs on its logs.
-ghost use Rattle.std.specs.Prelude.{◌≡◌, length, Some, None, MatchResult};
+ghost use Rattle.std.specs.Prelude.{◌≡◌, length, Some, None, OnOk, IfOk, OnErr, IfErr};
 ghost use Rattle.buffer.specs.Buffers.{Put};
 ghost use Rattle.log_record.specs.Rewrites.{Rewrites};
 
@@ -17,7 +17,10 @@ pub fn rewrite_accepted<F: Field>(
     log: &[u8],
     out: &mut [u8],
 ) -> Result<usize, Refusal>
-    ensures { MatchResult result (λ k. Rewrites F.model n log.now (length out.old) None × Put log.now out.old out.new k) (λ e. Rewrites F.model n log.now (length out.old) (Some e) × (out.new ≡ out.old)) }
+    ensures written { OnOk result (Rewrites F.model n log.now (length out.old) None) }
+    ensures bytes { IfOk result (λ k. Put log.now out.old out.new k) }
+    ensures refused { IfErr result (λ e. Rewrites F.model n log.now (length out.old) (Some e)) }
+    ensures kept { OnErr result (out.new ≡ out.old) }
 {
     match read_record::<F>(room, n, log).refusal {
         Some(e) => Err(e),

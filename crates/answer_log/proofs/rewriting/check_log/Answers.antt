@@ -7,14 +7,14 @@ use Rattle.answer_log.proofs.Logs.{rows_done}
 use Rattle.answer_log.proofs.Steps.{whole_still, count-still, step_passed, step-refused}
 use Rattle.answer_log.proofs.rewriting.check_log.Goals as goal
 
-pub returns-in_err-read_header : goal.returns-in_err-read_header
-returns-in_err-read_header g c =
+pub returns-in_err-read_header-clause-refused : goal.returns-in_err-read_header-clause-refused
+returns-in_err-read_header-clause-refused g c =
     let p = err_from_is_err_and c.from_residual.result c.from_residual.ensures.1 in
     let refused : HeaderCheck g.F.Field.model c.args.n c.args.bytes.now (Some c.in_err-read_header.field-0.0) = search (c.in_err-read_header.ensures) in
     rw (p.1, p.2) (bad_header _ refused)
 
-pub returns-in_err-entry : goal.returns-in_err-entry
-returns-in_err-entry g c =
+pub returns-in_err-entry-clause-refused : goal.returns-in_err-entry-clause-refused
+returns-in_err-entry-clause-refused g c =
     let M = g.F.Field.model in
     let bytes = c.args.bytes.now in
     let inv = c.loop-entry.invariant in
@@ -41,8 +41,8 @@ loop-entry-preserved g c =
       λ r rest. inv.4 r (step_passed M s t _ step bytes n inv.2 inv.3 c.in_ok-entry.field-0 c.in_ok-entry.was r rest),
     )
 
-pub returns : goal.returns
-returns g c =
+pub returns-clause-passed : goal.returns-clause-passed
+returns-clause-passed g c =
     let bytes = c.args.bytes.now in
     let s = c.loop-entry.entry-iterator in
     let inv = c.loop-entry.invariant in

@@ -1,5 +1,4 @@
 -- Answers for `write_header`: which check failed, or the two bytes.
-use Rattle.std.proofs.Common.{refl}
 use Rattle.std.proofs.lemmas.Bool.Decides.{not_from_Decides}
 use Rattle.buffer.specs.Buffers.{Writes}
 use Rattle.answer_log.specs.Rows.{header_bytes}
@@ -7,9 +6,9 @@ use Rattle.answer_log.specs.Writes.{wrong_count}
 use Rattle.answer_log.proofs.Writers.{header_written}
 use Rattle.answer_log.proofs.writing.write_header.Goals as goal
 
-pub returns-then-not-is_count : goal.returns-then-not-is_count
-returns-then-not-is_count g c =
-    (wrong_count (not_from_Decides c.is_count.result c.is_count.ensures c.if-not-is_count.true), refl)
+pub returns-then-not-is_count-clause-refused : goal.returns-then-not-is_count-clause-refused
+returns-then-not-is_count-clause-refused g c =
+    wrong_count (not_from_Decides c.is_count.result c.is_count.ensures c.if-not-is_count.true)
 
 pub returns : goal.returns
 returns g c =
@@ -17,4 +16,5 @@ returns g c =
     let count = c.is_count.ensures.0 c.if-not-is_count.false in
     let put = rw c.kind.ensures at c.put_bytes.ensures in
     let wrote : Writes (header_bytes M c.args.n) c.args.out.now c.put_bytes.new.out c.put_bytes.result = search (put) in
-    rw c.ok_or.ensures.value (header_written M c.args.n count c.args.out.now c.put_bytes.new.out c.put_bytes.result wrote)
+    let (done, bytes, refused, kept) = header_written M c.args.n count c.args.out.now c.put_bytes.new.out c.put_bytes.result wrote in
+    rw c.ok_or.ensures.value (record { written = done; bytes = bytes; refused = refused; kept = kept })
