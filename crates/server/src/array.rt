@@ -1,5 +1,5 @@
 // The array: a server over a slice of elements.
-ghost use Rattle.std.specs.Prelude.{◌≡◌, ℕ, ◌<◌, ◌≤◌, length, Some, None, MatchResult};
+ghost use Rattle.std.specs.Prelude.{◌≡◌, ℕ, ◌<◌, ◌≤◌, length, Some, None, OnOk, IfOk, IfErr};
 ghost use Rattle.server.specs.Tables.{listed, value_at, codes};
 ghost use Rattle.server.specs.Checks.{ArrayCheck};
 
@@ -19,7 +19,9 @@ impl<'a, F: Field> Array<'a, F> {
 
     // Refused where the count is not 1 to 64, or where a code is no element.
     pub fn new(elements: &'a [Element]) -> Result<Array<'a, F>, Refusal>
-        ensures { MatchResult result (λ a. ArrayCheck F.model (codes elements.now) None × (array_table F.model a ≡ codes elements.now)) (λ e. ArrayCheck F.model (codes elements.now) (Some e)) }
+        ensures accepted { OnOk result (ArrayCheck F.model (codes elements.now) None) }
+        ensures table { IfOk result (λ a. array_table F.model a ≡ codes elements.now) }
+        ensures refused { IfErr result (λ e. ArrayCheck F.model (codes elements.now) (Some e)) }
     {
         if !is_count(elements.len()) {
             return Err(Refusal::WrongCount);

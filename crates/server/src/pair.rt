@@ -1,5 +1,5 @@
 // The pair: two servers of one field and count, whose elements are added member by member.
-ghost use Rattle.std.specs.Prelude.{◌≡◌, length, Some, None, MatchResult};
+ghost use Rattle.std.specs.Prelude.{◌≡◌, length, Some, None, OnOk, IfOk, IfErr};
 ghost use Rattle.server.specs.Tables.{sums};
 ghost use Rattle.server.specs.Checks.{PairCheck};
 
@@ -24,7 +24,10 @@ pub struct Unpaired<L, R> {
 impl<L: Server, R: Server<Over = L::Over>> Pair<L, R> {
     // Refused where the counts differ.
     pub fn new(left: L, right: R) -> Result<Pair<L, R>, Unpaired<L, R>>
-        ensures { MatchResult result (λ p. PairCheck (length (L.Server.table left)) (length (R.Server.table right)) None × (p.left ≡ left) × (p.right ≡ right)) (λ u. PairCheck (length (L.Server.table left)) (length (R.Server.table right)) (Some u.refusal) × (u.left ≡ left) × (u.right ≡ right)) }
+        ensures accepted { OnOk result (PairCheck (length (L.Server.table left)) (length (R.Server.table right)) None) }
+        ensures servers { IfOk result (λ p. (p.left ≡ left) × (p.right ≡ right)) }
+        ensures refused { IfErr result (λ u. PairCheck (length (L.Server.table left)) (length (R.Server.table right)) (Some u.refusal)) }
+        ensures kept { IfErr result (λ u. (u.left ≡ left) × (u.right ≡ right)) }
     {
         if left.count() != right.count() {
             return Err(Unpaired {
