@@ -1,5 +1,5 @@
 // The view of a table file: opened once the bytes pass their checks, and then a server.
-ghost use Rattle.std.specs.Prelude.{◌≡◌, Some, None, MatchResult};
+ghost use Rattle.std.specs.Prelude.{◌≡◌, Some, None, OnOk, IfOk, IfErr, MatchResult};
 ghost use Rattle.table_file.specs.Files.{count_of, map_of, value_place, file_value, file_table, Headed, Framed, FileCheck};
 
 use field::{Element, Field, decode, element_width};
@@ -21,7 +21,9 @@ impl<'a, F: Field> TableFile<'a, F> {
 
     // The view of a table file's bytes, or the first check that fails.
     pub fn open(bytes: &'a [u8]) -> Result<TableFile<'a, F>, Refusal>
-        ensures { MatchResult result (λ f. FileCheck F.model bytes.now None × (view_table F.model f ≡ file_table F.model bytes.now)) (λ e. FileCheck F.model bytes.now (Some e)) }
+        ensures accepted { OnOk result (FileCheck F.model bytes.now None) }
+        ensures table { IfOk result (λ f. view_table F.model f ≡ file_table F.model bytes.now) }
+        ensures refused { IfErr result (λ e. FileCheck F.model bytes.now (Some e)) }
     {
         header_count::<F>(bytes)?;
         let file = TableFile {

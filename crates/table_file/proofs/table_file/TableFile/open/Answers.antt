@@ -10,4 +10,4 @@ returns-in_err-header_count g c =
 pub returns : goal.returns
 returns g c =
     let fine = c.in_ok-check_values.ensures in
-    (fine, means g.F.Field.model c.args.bytes.now g.met.F.Field.laws fine)
+    record { accepted = fine; table = means g.F.Field.model c.args.bytes.now g.met.F.Field.laws fine; refused = tt }
