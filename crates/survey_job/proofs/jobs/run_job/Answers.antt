@@ -9,7 +9,7 @@ use Rattle.survey_job.proofs.jobs.run_job.Goals as goal
 
 pub refuse-requires : goal.refuse-requires
 refuse-requires g c =
-    let small = small_detail g.F.Field.model c.args.table.now (Some c.in-Err.refusal) c.in-Err.ensures in
+    let small = small_detail g.F.Field.model c.args.table.now (Some c.in-Err.refusal) c.in-Err.ensures.refused in
     omega (arith, small)
 
 pub returns-in-Ok : goal.returns-in-Ok
@@ -19,7 +19,7 @@ returns-in-Ok g c =
     let out = vec_items c.replay_new.result.printed in
     let log = vec_items c.replay_new.result.log in
     let done : Replays M (view_table M c.in-Ok.server) c.args.text.now out log = search (c.replay_new.ensures) in
-    replayed file.0 out log (subst (λ (T : List ℕ). Replays M T c.args.text.now out log) file.1 done)
+    replayed file.accepted out log (subst (λ (T : List ℕ). Replays M T c.args.text.now out log) file.table done)
 
 pub returns-in-Err : goal.returns-in-Err
 returns-in-Err g c =
@@ -31,4 +31,4 @@ returns-in-Err g c =
     let told : out ≡ line = search (c.refuse.ensures) in
     let empty : log ≡ [] = search (c.refuse.ensures) in
     subst (λ (xs : List ℕ). Printed M c.args.table.now c.args.text.now xs log) (sym told)
-    (subst (λ (xs : List ℕ). Printed M c.args.table.now c.args.text.now line xs) (sym empty) (refused e c.in-Err.ensures))
+    (subst (λ (xs : List ℕ). Printed M c.args.table.now c.args.text.now line xs) (sym empty) (refused e c.in-Err.ensures.refused))

@@ -1,7 +1,7 @@
 use Rattle.std.proofs.Common.{◌≡◌, min, length, sym, ◌∙◌, arith}
 use Rattle.server.specs.Tables.{Table}
 use Rattle.server.proofs.Pairs.{sums-length, sums-table}
-use Rattle.server.proofs.pair.calls.PairServer.count.Goals as goal
+use Rattle.server.proofs.pair.PairServer.count.Goals as goal
 
 pub returns : goal.returns
 returns g c =

@@ -1,7 +1,7 @@
 -- Answers for `open`: the header's answer, and that an accepted file means its table.
 use Rattle.std.proofs.Common.{rules}
 use Rattle.table_file.proofs.Verdicts.{header_refused, means}
-use Rattle.table_file.proofs.TableFile.open.Goals as goal
+use Rattle.table_file.proofs.table_file.TableFile.open.Goals as goal
 
 pub returns-in_err-header_count : goal.returns-in_err-header_count
 returns-in_err-header_count g c =
@@ -10,4 +10,4 @@ returns-in_err-header_count g c =
 pub returns : goal.returns
 returns g c =
     let fine = c.in_ok-check_values.ensures in
-    (fine, means g.F.Field.model c.args.bytes.now g.met.F.Field.laws fine)
+    record { accepted = fine; table = means g.F.Field.model c.args.bytes.now g.met.F.Field.laws fine; refused = tt }

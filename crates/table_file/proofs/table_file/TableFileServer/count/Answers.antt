@@ -3,7 +3,7 @@ use Rattle.std.proofs.Common.{◌≡◌, sym, ◌∙◌, arith}
 use Rattle.server.specs.Tables.{bounded}
 use Rattle.server.proofs.Listed.{listed-length, listed-table}
 use Rattle.table_file.specs.Files.{count_of, file_value}
-use Rattle.table_file.proofs.view.TableFileServer.count.Goals as goal
+use Rattle.table_file.proofs.table_file.TableFileServer.count.Goals as goal
 
 pub returns : goal.returns
 returns g c =

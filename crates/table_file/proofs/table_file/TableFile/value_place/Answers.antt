@@ -2,7 +2,7 @@
 use Rattle.std.proofs.Common.{arith}
 use Rattle.field.proofs.Widths.{narrow}
 use Rattle.member_map.proofs.Counts.{few_bytes}
-use Rattle.table_file.proofs.TableFile.value_place.Goals as goal
+use Rattle.table_file.proofs.table_file.TableFile.value_place.Goals as goal
 
 pub overflow_mul-result : goal.overflow_mul-result
 overflow_mul-result g c = omega (arith, few_bytes _ _ _ _ (narrow g.F.Field.model _ c.element_width.ensures) c.named_count.ensures)

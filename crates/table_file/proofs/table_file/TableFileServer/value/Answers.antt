@@ -3,7 +3,7 @@ use Rattle.std.proofs.Common.{◌≡◌, ap, ◌∙◌, arith}
 use Rattle.server.specs.Tables.{element_or_zero_lem}
 use Rattle.server.proofs.Listed.{answered}
 use Rattle.table_file.specs.Files.{count_of, file_value}
-use Rattle.table_file.proofs.view.TableFileServer.value.Goals as goal
+use Rattle.table_file.proofs.table_file.TableFileServer.value.Goals as goal
 
 pub returns : goal.returns
 returns g c =

@@ -1,7 +1,7 @@
 use Rattle.std.proofs.Common.{◌<◌, length, inl, inr, sym, ◌∙◌, ap₂, arith}
 use Rattle.server.specs.Tables.{sums}
 use Rattle.server.proofs.Pairs.{sums-length, sums_past, sums_at}
-use Rattle.server.proofs.pair.calls.PairServer.value.Goals as goal
+use Rattle.server.proofs.pair.PairServer.value.Goals as goal
 
 pub returns-in_err-a : goal.returns-in_err-a
 returns-in_err-a g c =

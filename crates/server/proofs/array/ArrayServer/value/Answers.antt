@@ -2,7 +2,7 @@ use Rattle.std.proofs.Common.{◌≡◌, length, get_or, sym, ap, ◌∙◌, rul
 use Rattle.server.specs.Tables.{value_at, codes, element_or_zero_lem}
 use Rattle.server.proofs.Arrays.{code_at}
 use Rattle.server.proofs.Listed.{answered}
-use Rattle.server.proofs.array.calls.ArrayServer.value.Goals as goal
+use Rattle.server.proofs.array.ArrayServer.value.Goals as goal
 
 pub returns : goal.returns
 returns g c =

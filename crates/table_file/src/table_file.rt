@@ -1,15 +1,44 @@
-// The checks of a table file behind its header, in their order, and where its values stand.
-ghost use Rattle.std.specs.Prelude.{◌≡◌, Some, None, MatchResult};
-ghost use Rattle.table_file.specs.Files.{count_of, map_of, value_place, file_value, Headed, Framed, FileCheck};
+// The view of a table file: opened once the bytes pass their checks, and then a server.
+ghost use Rattle.std.specs.Prelude.{◌≡◌, Some, None, OnOk, IfOk, IfErr, MatchResult};
+ghost use Rattle.table_file.specs.Files.{count_of, map_of, value_place, file_value, file_table, Headed, Framed, FileCheck};
 
-use crate::TableFile;
 use field::{Element, Field, decode, element_width};
 use member_map::{is_named, map_length, named_count, stray_bit};
 use refusal::{Member, Refusal, Site};
-use stored::check_value;
+use server::{Server, bounded_count, element_or_zero};
+use std::marker::PhantomData;
+use stored::{check_value, header_count};
+
+// The values stay where they lie in the bytes, and are found through the member map.
+#[derive(Drop)]
+pub struct TableFile<'a, F> {
+    bytes: &'a [u8],
+    field: PhantomData<F>,
+}
 
 impl<'a, F: Field> TableFile<'a, F> {
-    pub(crate) fn count_byte(&self) -> u8
+    ghost use Rattle.table_file.specs.Views.{view_table};
+
+    // The view of a table file's bytes, or the first check that fails.
+    pub fn open(bytes: &'a [u8]) -> Result<TableFile<'a, F>, Refusal>
+        ensures accepted { OnOk result (FileCheck F.model bytes.now None) }
+        ensures table { IfOk result (λ f. view_table F.model f ≡ file_table F.model bytes.now) }
+        ensures refused { IfErr result (λ e. FileCheck F.model bytes.now (Some e)) }
+    {
+        header_count::<F>(bytes)?;
+        let file = TableFile {
+            bytes,
+            field: PhantomData,
+        };
+        file.check_frame()?;
+        file.check_values()?;
+        Ok(file)
+    }
+}
+
+// The checks of the bytes behind the header, in their order, and where the values stand.
+impl<'a, F: Field> TableFile<'a, F> {
+    fn count_byte(&self) -> u8
         ensures { result ≡ count_of self.now.bytes.now }
     {
         self.bytes.get(1).copied().unwrap_or(0)
@@ -33,7 +62,7 @@ impl<'a, F: Field> TableFile<'a, F> {
     }
 
     // The code of a member, 0 where the map does not name it.
-    pub(crate) fn stored_code(&self, m: u8) -> Element
+    fn stored_code(&self, m: u8) -> Element
         ensures { result.0 ≡ file_value F.model self.now.bytes.now m }
     {
         if is_named(self.map(), Member(usize::from(m))) {
@@ -44,7 +73,7 @@ impl<'a, F: Field> TableFile<'a, F> {
     }
 
     // The map, and the length that it calls for.
-    pub(crate) fn check_frame(&self) -> Result<(), Refusal>
+    fn check_frame(&self) -> Result<(), Refusal>
         requires { Headed F.model self.now.bytes.now }
         ensures { MatchResult result (λ _. Framed F.model self.now.bytes.now) (λ e. FileCheck F.model self.now.bytes.now (Some e)) }
     {
@@ -62,7 +91,7 @@ impl<'a, F: Field> TableFile<'a, F> {
     }
 
     // Every stored value: an element, and not 0.
-    pub(crate) fn check_values(&self) -> Result<(), Refusal>
+    fn check_values(&self) -> Result<(), Refusal>
         requires { Framed F.model self.now.bytes.now }
         ensures { MatchResult result (λ _. FileCheck F.model self.now.bytes.now None) (λ e. FileCheck F.model self.now.bytes.now (Some e)) }
     {
@@ -73,5 +102,24 @@ impl<'a, F: Field> TableFile<'a, F> {
             }
         }
         Ok(())
+    }
+}
+
+impl<'a, F: Field> Server for TableFile<'a, F> {
+    ghost use Rattle.table_file.specs.Views.{view_table};
+
+    type Over = F;
+
+    ghost table = { view_table F.Field.model };
+
+    fn count(&self) -> usize {
+        bounded_count(usize::from(self.count_byte()))
+    }
+
+    fn value(&self, m: Member) -> Option<Element> {
+        if m.0 >= self.count() {
+            return None;
+        }
+        Some(element_or_zero::<F>(self.stored_code(m.0 as u8)))
     }
 }

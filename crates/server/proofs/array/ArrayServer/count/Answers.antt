@@ -2,7 +2,7 @@ use Rattle.std.proofs.Common.{◌≡◌, length, sym, ap, ◌∙◌, arith}
 use lib.ListN.{length-map}
 use Rattle.server.specs.Tables.{value_at, codes, bounded}
 use Rattle.server.proofs.Listed.{listed-length, listed-table}
-use Rattle.server.proofs.array.calls.ArrayServer.count.Goals as goal
+use Rattle.server.proofs.array.ArrayServer.count.Goals as goal
 
 pub returns : goal.returns
 returns g c =

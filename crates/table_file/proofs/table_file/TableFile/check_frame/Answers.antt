@@ -1,7 +1,7 @@
 -- Answers for `check_frame`: which check of the map and the length failed.
 use Rattle.std.proofs.Common.{sym, ap, ◌∙◌, arith}
 use Rattle.table_file.specs.Files.{value_place, map_cut, stray_bit, wrong_length}
-use Rattle.table_file.proofs.TableFile.check_frame.Goals as goal
+use Rattle.table_file.proofs.table_file.TableFile.check_frame.Goals as goal
 
 pub returns-then-self-map_length : goal.returns-then-self-map_length
 returns-then-self-map_length g c = map_cut c.requires (omega arith)

@@ -3,8 +3,8 @@ use Rattle.std.proofs.Common.{◌≡◌, true, false, sym, ◌∙◌, arith, rul
 use Rattle.member_map.specs.Maps.{named}
 use Rattle.table_file.specs.Files.{map_of, file_value, accepted}
 use Rattle.table_file.proofs.Verdicts.{no_fault, unnamed_no_fault, value_refused}
-use Rattle.table_file.proofs.TableFile.check_values.Goals as goal
-use Rattle.table_file.proofs.TableFile.check_values.Goals.{then-is_named+in_ok-check_value, else-is_named}
+use Rattle.table_file.proofs.table_file.TableFile.check_values.Goals as goal
+use Rattle.table_file.proofs.table_file.TableFile.check_values.Goals.{then-is_named+in_ok-check_value, else-is_named}
 
 pub returns-in_err-check_value : goal.returns-in_err-check_value
 returns-in_err-check_value g c =
