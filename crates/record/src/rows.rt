@@ -38,6 +38,19 @@ pub fn minus<F: Field>(a: Element, b: Element) -> Element
     F::add(a, F::neg(b))
 }
 
+// One place of a step of elimination. Most weights of a record row are 0, and take nothing away.
+fn added<F: Field>(factor: Element, weight: Element, to: Element) -> Element
+    requires factor { factor.0 < F.model.size }
+    requires to { to.0 < F.model.size }
+    ensures is { result.0 ≡ F.model.plus to.0 (F.model.times factor.0 weight.0) }
+    ensures within { result.0 < F.model.size }
+{
+    if weight.0 == 0 {
+        return to;
+    }
+    F::mul_add(factor, weight, to)
+}
+
 // `few` stays a clause: a type for the count, which contracts see as the number, was tried. Each use of the count then needs
 // an equation in the proofs, and the code a call.
 impl FiguredRow {
@@ -62,7 +75,7 @@ impl FiguredRow {
         let opposite = F::neg(factor);
         let pivot = by.pivot.0;
         for (k, weight) in self.weights[pivot..n].iter_mut().enumerate() {
-            *weight = F::mul_add(opposite, by.row.weights[pivot + k], *weight);
+            *weight = added::<F>(opposite, by.row.weights[pivot + k], *weight);
         }
         self.figure = F::mul_add(opposite, by.row.figure, self.figure);
     }
