@@ -54,11 +54,11 @@ pub record Progress {S V : Type 0} {GS : server.Ghosts S V} {GV : field.Ghosts V
   pub holds : Holds state x
 
 module _ {S V : Type 0} {GS : server.Ghosts S V} {GV : field.Ghosts V} (text answers₀ log₀ : List ℕ) (σ : State) where
-  -- before the first line, where the log has its header
+  -- before the first line, where the log has its header, and the place in it is after that
   pub begun :
-      (x : Session S V GS GV) (log : List ℕ) (header : ℕ) → Holds σ x → Front log₀ log (header_bytes GV.model (members_of x)) header
-      → Progress x text answers₀ log₀ answers₀ log (record { lines = 0; answers = 0; log = header; stop = None }) text σ
-  begun x log header H front = record {
+      (x : Session S V GS GV) (log : List ℕ) (place header : ℕ) → place ≡ header → Holds σ x → Front log₀ log (header_bytes GV.model (members_of x)) header
+      → Progress x text answers₀ log₀ answers₀ log (record { lines = 0; answers = 0; log = place; stop = None }) text σ
+  begun x log place header is H front = record {
     before = [];
     cut = refl;
     events = [];
@@ -66,7 +66,7 @@ module _ {S V : Type 0} {GS : server.Ghosts S V} {GV : field.Ghosts V} (text ans
     out = [];
     lines = none_yet;
     printed_is = record { buffer = refl; size = refl; within = omega arith };
-    logged_is = subst (λ (T : List ℕ). Front log₀ log (header_bytes GV.model (length T)) header) (sym (ap (λ s. s.table) H.is)) front;
+    logged_is = subst (λ (T : List ℕ). Front log₀ log (header_bytes GV.model (length T)) place) (sym (ap (λ s. s.table) H.is)) (subst (Front log₀ log (header_bytes GV.model (members_of x))) (sym is) front);
     holds = H;
   }
 

@@ -48,11 +48,15 @@ module _ {S V : Type 0} {GS : server.Ghosts S V} {GV : field.Ghosts V} (x x' : S
         (record { weights = row.weights; members = row.members ∙ ap (λ s. length (GS.table s)) same })
 
     module _ (k : ℕ) (granted : Follows x (permitted ws k) x') (x'' : Session S V GS GV) where
-      pub ask_answered_so : (r : CheckedRow V GV) → row_of r ≡ weights_of ws → (v : Element) → Follows x' (answered k v.0) x'' → AsksRow x ws (Ok (r, v)) x''
-      ask_answered_so r is v step σ H =
+      answered_so : (r : CheckedRow V GV) → row_of r ≡ weights_of ws → (v : Element) → Follows x' (answered k v.0) x'' → AsksRow x ws (Ok (r, v)) x''
+      answered_so r is v step σ H =
           let (due, next) = granted σ H in
           let (due', last) = step (after σ (permitted ws k)) next in
           (permitted ws k ∷ answered k v.0 ∷ [], _, goes_on due (goes_on due' ends), (ask_answered k v.0, ap (λ w. row_with w v.0 ∷ []) (sym is)), last)
+
+      -- the answer v is the figure f
+      pub ask_answered_so : (r : CheckedRow V GV) → row_of r ≡ weights_of ws → (v f : Element) → v.0 ≡ f.0 → Follows x' (answered k f.0) x'' → AsksRow x ws (Ok (r, v)) x''
+      ask_answered_so r is v f same step = answered_so r is v (subst (λ (w : ℕ). Follows x' (answered k w) x'') (sym same) step)
 
       pub try_granted_so : {T : Type 0} (u : T) → Follows x' (withdrew k) x'' → TriesRow x ws (Ok u) x''
       try_granted_so u step σ H =

@@ -1,5 +1,5 @@
 -- One call more, over states. Assumes nothing.
-use Rattle.std.proofs.Common.{◌≡◌, ℕ, ◌+◌, ◌<◌, ◌≤◌, true, false, ◌≢◌, List, length, is_some, Some, None, Option, option_map, sym, refl, ap, ◌∙◌, subst, arith}
+use Rattle.std.proofs.Common.{◌≡◌, ℕ, ◌+◌, ◌<◌, ◌≤◌, true, false, ◌≢◌, List, [], length, is_some, Some, None, Option, option_map, sym, refl, ap, ◌∙◌, subst, arith}
 use borrow.Author.Tests.{clash}
 use Rattle.std.specs.Option.{ForSome}
 use lib.ListN.{length-map, get_or-map}
@@ -9,7 +9,7 @@ use Rattle.refusal.specs.declared.Refusal.TheVariants.{PermitOpen, PermitsSpent,
 use Rattle.refusal.specs.declared.Site.TheVariants.{OfMember}
 use Rattle.field.specs.declared.Field as field
 use Rattle.server.specs.declared.Server as server
-use Rattle.field.specs.Model.{FieldModel, FieldLaws}
+use Rattle.field.specs.Model.{FieldLaws}
 use Rattle.field.specs.Sums.{sum, weights_of}
 use Rattle.field.specs.declared.Element.{Element}
 use Rattle.server.specs.Checks.{Lowest}
@@ -31,10 +31,11 @@ use Rattle.record.specs.Records.{rec_of}
 use Rattle.session.proofs.Own.{cut_record, own_cut_form, own_fine, own_pins_none, own_pinned_with}
 use Rattle.session.proofs.Rows.{is_row, awaits_free}
 use Rattle.law.specs.States as states
-use Rattle.law.specs.States.{State, seen, Call, Event, submits, answers, withdraws, witnesses, refused, permitted, answered, withdrew, witnessed, with_figure, after}
+use Rattle.law.specs.States.{State, new_state, seen, Call, Event, submits, answers, withdraws, witnesses, refused, permitted, answered, withdrew, witnessed, with_figure, after}
 use Rattle.law.specs.Law.{PinnedBy, Ready, Refuses, Due, refuses, grants, figures, takes_back, fills, permit_open, permits_spent, bad_row, discloses, not_open_to_answer, not_open_to_withdraw, bad_witness}
 use Rattle.law.specs.Sound.{Sound}
-use Rattle.law.proofs.Facts.{stays_sound_lem, rows_coded}
+use Rattle.law.proofs.Facts.{new_is_sound_lem, stays_sound_lem, rows_coded}
+use Rattle.log_record.proofs.Verdicts.{empty_form}
 use Rattle.session.specs.States.{open_permit, open_of, state_of, Holds, Follows, StandsForSome}
 use Rattle.session.specs.declared.session.Session.{Session}
 
@@ -76,6 +77,21 @@ module _ {S V : Type 0} {GS : server.Ghosts S V} {GV : field.Ghosts V} (L : Fiel
           let one : record { permit = p.0; row = row_of p.1 } ≡ o = cc in
           apart (ap Some (ap (λ (q : states.OpenRow). q.permit) one ∙ same))
 
+  -- the event that is due, under another name
+  pub event_is : (x' : Session S V GS GV) (e d : Event) → e ≡ d → Follows x d x' → Follows x e x'
+  event_is x' e d is due = subst (λ (f : Event). Follows x f x') (sym is) due
+
+  -- a session with an empty record, no open row and no permit issued
+  pub new_holds : Table GV.model (GS.table x.server) → x.issued ≡ 0 → opened x.audit ≡ None → rec_of x.audit.«record» ≡ [] → Holds (new_state (GS.table x.server)) x
+  new_holds table issued pending none =
+      let T = GS.table x.server in
+      record {
+        is = ap (λ o. record { table = T; given = []; pending = open_of o; issued = 0 }) (sym pending)
+            ∙ ap (λ k. record { table = T; given = []; pending = open_of (opened x.audit); issued = k }) (sym issued);
+        sound = new_is_sound_lem GV.model L T table;
+        form = subst (λ (rec : List Pivoted). ReducedForm GV.model (length T) [] rec) (sym none) (empty_form GV.model (length T));
+      }
+
   -- withdrawals
   pub withdrawal_refused : (k : ℕ) → (open_permit x ≢ Some k) → Follows x (refused (withdraws k) NotTheOpenPermit) x
   withdrawal_refused k other = refused_follows (withdraws k) NotTheOpenPermit (λ given sound form. not_open_to_withdraw k (not_this k other))
@@ -94,12 +110,12 @@ module _ {S V : Type 0} {GS : server.Ghosts S V} {GV : field.Ghosts V} (L : Fiel
   pub answer_refused : (k : ℕ) → (open_permit x ≢ Some k) → Follows x (refused (answers k) NotTheOpenPermit) x
   answer_refused k other = refused_follows (answers k) NotTheOpenPermit (λ given sound form. not_open_to_answer k (not_this k other))
 
-  pub answered_with : (k v : ℕ) (p : ℕ × CheckedRow V GV) (x' : Session S V GS GV) → opened x.audit ≡ Some p → p.0 ≡ k
+  answered_so : (k v : ℕ) (p : ℕ × CheckedRow V GV) (x' : Session S V GS GV) → opened x.audit ≡ Some p → p.0 ≡ k
       → v ≡ sum GV.model (length (GS.table x.server)) (row_of p.1) (value_at (GS.table x.server))
       → Adds GV.model (length (GS.table x.server)) (rec_of x.audit.«record») (row_with (row_of p.1) v) (rec_of x'.audit.«record»)
       → ((given : List Figured) → after (state_of x given) (answered k v) ≡ state_of x' (with_figure (open_of (opened x.audit)) v given))
       → Follows x (answered k v) x'
-  answered_with k v p x' pending permit told adds becomes =
+  answered_so k v p x' pending permit told adds becomes =
       let n = length (GS.table x.server) in
       let o : states.OpenRow = record { permit = p.0; row = row_of p.1 } in
       event_follows x' (answered k v)
@@ -110,6 +126,15 @@ module _ {S V : Type 0} {GS : server.Ghosts S V} {GV : field.Ghosts V} (L : Fiel
         subst (λ (q : Option (ℕ × CheckedRow V GV)). ReducedForm GV.model n (with_figure (open_of q) v given) (rec_of x'.audit.«record»)) (sym pending)
             (adds given (rows_coded GV.model _ given sound.rows) form),
       ))
+
+  -- the answer v is the figure f
+  pub answered_with : (k v f : ℕ) → v ≡ f → (p : ℕ × CheckedRow V GV) (x' : Session S V GS GV) → opened x.audit ≡ Some p → p.0 ≡ k
+      → f ≡ sum GV.model (length (GS.table x.server)) (row_of p.1) (value_at (GS.table x.server))
+      → Adds GV.model (length (GS.table x.server)) (rec_of x.audit.«record») (row_with (row_of p.1) f) (rec_of x'.audit.«record»)
+      → ((given : List Figured) → after (state_of x given) (answered k f) ≡ state_of x' (with_figure (open_of (opened x.audit)) f given))
+      → Follows x (answered k v) x'
+  answered_with k v f same p x' pending permit told adds becomes =
+      subst (λ (w : ℕ). Follows x (answered k w) x') (sym same) (answered_so k f p x' pending permit told adds becomes)
 
   -- witnesses
   pub witness_refused : (i a l : ℕ) (e : Refusal) → WitnessCheck GV.model (length (GS.table x.server)) i a l (Some e) → Follows x (refused (witnesses i a l) e) x
@@ -173,17 +198,33 @@ module _ {S V : Type 0} {GS : server.Ghosts S V} {GV : field.Ghosts V} (L : Fiel
           refused_follows (submits ws) (Discloses (OfMember (record { 0 = i })))
           (λ given sound form. discloses ws i (ready given) passed (record { holds = pinned_by given sound form ws i low.holds; none_below = λ k b p. low.none_below k b (pinned_with given sound form ws k p) }))
 
-      pub granted : (x' : Session S V GS GV) → RowCheck GV.model (length (GS.table x.server)) ws None
+      granted_so : (x' : Session S V GS GV) → RowCheck GV.model (length (GS.table x.server)) ws None
           → ((i : ℕ) → PinnedWith GV.model (length (GS.table x.server)) (rec_of x.audit.«record») (weights_of ws) i → ⊥)
           → ((given : List Figured) → after (state_of x given) (permitted ws (x.issued + 1)) ≡ state_of x' given) → x'.audit.«record» ≡ x.audit.«record»
           → Follows x (permitted ws (x.issued + 1)) x'
-      granted x' passed free becomes same =
+      granted_so x' passed free becomes same =
           event_follows x' (permitted ws (x.issued + 1))
           (λ given sound form. (
             grants ws (record { ready = ready given; passed = passed; pins_nobody = λ i p. free i (pinned_with given sound form ws i p) }),
             becomes given,
             subst (λ (r : Record V GV). ReducedForm GV.model (length (GS.table x.server)) given (rec_of r)) (sym same) form,
           ))
+
+      -- the session x' has issued one permit more, k, and its row is open
+      pub granted : (k : ℕ) (row : CheckedRow V GV) (x' : Session S V GS GV) → k ≡ x.issued + 1 → x'.issued ≡ x.issued + 1 → x'.server ≡ x.server
+          → opened x'.audit ≡ Some (x.issued + 1, row) → row_of row ≡ weights_of ws → x'.audit.«record» ≡ x.audit.«record»
+          → RowCheck GV.model (length (GS.table x.server)) ws None
+          → ((i : ℕ) → PinnedWith GV.model (length (GS.table x.server)) (rec_of x.audit.«record») (weights_of ws) i → ⊥)
+          → Follows x (permitted ws k) x'
+      granted k row x' next issued server pending weights same passed free =
+          let n = x.issued + 1 in
+          subst (λ (m : ℕ). Follows x (permitted ws m) x') (sym next)
+          (granted_so x' passed free
+          (λ given. ap (λ w. record { table = GS.table x.server; given = given; pending = Some (record { permit = n; row = w }); issued = n }) (sym weights)
+          ∙ ap (λ o. record { table = GS.table x.server; given = given; pending = open_of o; issued = n }) (sym pending)
+          ∙ ap (λ s. record { table = GS.table s; given = given; pending = open_of (opened x'.audit); issued = n }) (sym server)
+          ∙ ap (λ m. record { table = GS.table x'.server; given = given; pending = open_of (opened x'.audit); issued = m }) (sym issued))
+          same)
 
 -- what the open row passed when its permit was issued
 module _ {V : Type 0} {GV : field.Ghosts V} (L : FieldLaws GV.model) (n : ℕ) (a : Audit V GV) (counted : a.«record».count ≡ n)
@@ -199,9 +240,10 @@ module _ {V : Type 0} {GV : field.Ghosts V} (L : FieldLaws GV.model) (n : ℕ) (
       let kept = subst (λ (q : Option (audit.OpenRow V GV)). Awaited GV.model a.«record».count (rec_of a.«record») q) is a.awaited in
       let free : (i : ℕ) → PinnedWith GV.model a.«record».count (rec_of a.«record») (row_of p.row) i → ⊥ =
       awaits_free L a.«record» p.row p.fresh kept in
-      subst (λ (q : states.OpenRow). IsRow GV.model n q.row × ((i : ℕ) → PinnedWith GV.model n (rec_of a.«record») q.row i → ⊥)) one
-      (is_row p.row n (whole (p.permit, p.row) here),
-      subst (λ (k : ℕ). (i : ℕ) → PinnedWith GV.model k (rec_of a.«record») (row_of p.row) i → ⊥) counted free)
+      subst (λ (q : states.OpenRow). IsRow GV.model n q.row × ((i : ℕ) → PinnedWith GV.model n (rec_of a.«record») q.row i → ⊥)) one (
+        is_row p.row n (whole (p.permit, p.row) here),
+        subst (λ (k : ℕ). (i : ℕ) → PinnedWith GV.model k (rec_of a.«record») (row_of p.row) i → ⊥) counted free,
+      )
 
 -- a session stands for the state in which the rows of its record were answered
 pub stands_for :

@@ -11,7 +11,6 @@ use Rattle.echelon.proofs.Own.{own_form, pins_none}
 use Rattle.echelon.proofs.Unique.{same-fits, same_sym, same-reduced}
 use Rattle.echelon.proofs.Forms.{form_agrees_lem}
 use Rattle.echelon.proofs.ByForm.{PinnedGiven, pinned_with}
-use Rattle.checks.specs.Rows.{IsRow}
 use Rattle.law.specs.Sound.{RowFine, AllFine}
 use Rattle.law.proofs.Facts.{rows_coded}
 

@@ -3,14 +3,14 @@ use Rattle.std.proofs.Common.{◌≡◌, ℕ, ◌≢◌, List, [], length, Some,
 use Rattle.refusal.specs.declared.Refusal.{Refusal}
 use Rattle.field.specs.declared.Field as field
 use Rattle.server.specs.declared.Server as server
-use Rattle.field.specs.Model.{FieldModel, FieldLaws}
+use Rattle.field.specs.Model.{FieldLaws}
 use Rattle.server.specs.Tables.{Table}
 use Rattle.echelon.specs.Rows.{Figured}
 use Rattle.echelon.specs.Reduced.{ReducedForm}
 use Rattle.echelon.proofs.Unique.{one_form}
 use Rattle.record.specs.Records.{rec_of}
 use Rattle.record.specs.Audits.{opened}
-use Rattle.law.specs.States.{State, log_state}
+use Rattle.law.specs.States.{log_state}
 use Rattle.log_record.specs.Joins.{LogRecord, log_bytes}
 use Rattle.log_record.proofs.Answered.{answered_is_accepted_lem}
 use Rattle.log_record.proofs.Once.{some_none, one_answer}

@@ -1,5 +1,5 @@
 -- What a checked row is over the members of a session, and what the audit of one that waits tells. Assumes nothing.
-use Rattle.std.proofs.Common.{◌≡◌, ℕ, ◌<◌, ◌≤◌, true, List, length, is_ok, take, Some, None, Option, Ok, Err, Result, OnOk, refl, subst, sym, ap, ap₂, ◌∙◌, arith, length-take}
+use Rattle.std.proofs.Common.{◌≡◌, ℕ, ◌<◌, true, List, length, is_ok, Some, None, Option, Ok, Err, Result, OnOk, refl, subst, sym, ap, ap₂, ◌∙◌, arith, length-take}
 use native.Mathlib.Decide.{dec_lt}
 use borrow.Author.Tests.{clash}
 use Rattle.std.proofs.lemmas.List.{get_or-take}

@@ -1,16 +1,14 @@
 -- What the record's witness comes to in a session. Assumes nothing.
-use Rattle.std.proofs.Common.{◌≡◌, ℕ, ◌<◌, ◌≤◌, ◌⊎◌, List, length, Some, None, Ok, Err, Option, Result, OnOk, IfErr, sym, ◌∙◌, subst, inl, inr, arith, MatchResult}
+use Rattle.std.proofs.Common.{◌≡◌, ℕ, List, length, Some, None, Ok, Err, Result, OnOk, IfErr, ◌∙◌, subst}
 use Rattle.refusal.specs.declared.Refusal.{Refusal}
 use Rattle.field.specs.declared.Field as field
 use Rattle.server.specs.declared.Server as server
 use Rattle.field.specs.Model.{FieldModel, FieldLaws}
-use Rattle.field.specs.Sums.{Codes, weights_of}
+use Rattle.field.specs.Sums.{weights_of}
 use Rattle.field.specs.declared.Element.{Element}
 use Rattle.server.specs.Tables.{codes}
-use Rattle.echelon.specs.Rows.{Fits}
-use Rattle.echelon.specs.Reduced.{Pivoted, all_figured}
 use Rattle.echelon.specs.Witness.{Witness}
-use Rattle.checks.specs.Checks.{WitnessCheck, no_such_member, not_an_element, wrong_length, accepted}
+use Rattle.checks.specs.Checks.{WitnessCheck, accepted}
 use Rattle.record.specs.Records.{rec_of}
 use Rattle.session.specs.States.{Follows, witness_event}
 use Rattle.session.specs.declared.session.Session.{Session}

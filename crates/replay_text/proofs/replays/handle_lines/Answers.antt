@@ -11,7 +11,7 @@ loop-rest-init g c = record {
   none_yet = refl;
   answers_within = omega arith;
   log_within = omega (arith, c.requires.header.within);
-  progress = λ σ H. begun c.args.text.now c.args.answers.now c.args.log.now σ c.args.session.now c.args.log.now c.args.header H c.requires.header;
+  progress = λ σ H. begun c.args.text.now c.args.answers.now c.args.log.now σ c.args.session.now c.args.log.now _ c.args.header (omega arith) H c.requires.header;
 }
 
 pub loop-rest-preserved : goal.loop-rest-preserved
@@ -42,7 +42,7 @@ pub returns-in-Err-clause-law : goal.returns-in-Err-clause-law
 returns-in-Err-clause-law g c =
     let at = c.loop-rest in
     ended g.met.S.Over.Field.laws c.args.session.now at.session c.args.text.now c.args.answers.now c.args.log.now at.answers at.log at.done at.rest.now
-    c.requires.text (omega (arith, c.requires.header.within, c.requires.header.size)) at.invariant.progress (Some c.in-Err.refusal) c.in-Err.ensures _ refl
+    c.requires.text (omega (arith, c.requires.header.within, c.requires.header.size)) at.invariant.progress (Some c.in-Err.refusal) c.in-Err.ensures _ (search rules)
 
 pub returns-clause-law : goal.returns-clause-law
 returns-clause-law g c =

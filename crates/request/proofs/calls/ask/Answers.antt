@@ -1,4 +1,4 @@
-use Rattle.std.proofs.Common.{◌≡◌, Some, Option, Result, is_some, sym, ap, ◌∙◌, subst}
+use Rattle.std.proofs.Common.{◌≡◌, Some, Option, Result, is_some, sym, ap, ◌∙◌, subst, arith}
 use Rattle.std.proofs.lemmas.Result.{err_from_is_err_and}
 use Rattle.refusal.specs.declared.Refusal.{Refusal}
 use Rattle.field.specs.declared.Element.{Element}
@@ -45,4 +45,4 @@ returns-clause-law g c =
     let step : Follows c.submit.new.self (answered k v.0) c.answer.new.self =
     subst (λ (r : Result Element Refusal). Follows c.submit.new.self (answer_event k r) c.answer.new.self) c.unwrap-figure.ensures c.answer.ensures.law in
     ask_answered_so c.args.session.now c.submit.new.self c.args.row.now k c.in_ok-permit.ensures.law c.answer.new.self c.unwrap-asked.result
-    (that_row g (goal.at.returns-clause-law g c).After-unwrap-asked).weights v step
+    (that_row g (goal.at.returns-clause-law g c).After-unwrap-asked).weights _ v (omega arith) step

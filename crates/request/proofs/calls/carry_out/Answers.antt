@@ -69,7 +69,8 @@ returns-in_err-attempt-in-Try g c =
     let is = read_as g.S.Over.Field.model line c.count-n.ensures.members c.in_ok-weights.ensures.is c.in-Try.is in
     let size : c.count-n.result ≡ members_of x = omega (arith, c.count-n.ensures.members) in
     let at = c.in_err-attempt-in-Try.ensures in
-    let leads = subst (λ (k : ℕ). TriesRow {T = Unit {0}} x (take k w.0) (Err e) x') size at.law in
+    let tried : TriesRow {T = Unit {0}} x (take c.count-n.result w.0) (Err e) x' = search (at.law) in
+    let leads = subst (λ (k : ℕ). TriesRow {T = Unit {0}} x (take k w.0) (Err e) x') size tried in
     let p = err_from_is_err_and c.from_residual-in_err-attempt-in-Try.result c.from_residual-in_err-attempt-in-Try.ensures.1 in
     rw (p.1, p.2) (record { server = at.server; refused = at.refused; read = (_, is); law = try_refused-line x x' line (Unit {0}) w e is leads })
 
@@ -82,7 +83,8 @@ returns-in_ok-attempt-in-Try g c =
     let is = read_as g.S.Over.Field.model line c.count-n.ensures.members c.in_ok-weights.ensures.is c.in-Try.is in
     let size : c.count-n.result ≡ members_of x = omega (arith, c.count-n.ensures.members) in
     let at = c.in_ok-attempt-in-Try.ensures in
-    let leads = subst (λ (k : ℕ). TriesRow {T = Unit {0}} x (take k w.0) (Ok (tt {0})) x') size at.law in
+    let tried : TriesRow {T = Unit {0}} x (take c.count-n.result w.0) (Ok (tt {0})) x' = search (at.law) in
+    let leads = subst (λ (k : ℕ). TriesRow {T = Unit {0}} x (take k w.0) (Ok (tt {0})) x') size tried in
     record { server = at.server; refused = tt; read = search (is); law = tried-line x x' line w (tt {0}) is leads }
 
 pub returns-in_ok-table-in-Witness : goal.returns-in_ok-table-in-Witness

@@ -34,11 +34,14 @@ returns g c =
     let answers = c.replay-done.new.answers in
     let log = c.replay-done.new.log in
     let (es, τ, told, whole, holds) = c.replay-done.ensures.law _ c.new-session.ensures.holds in
+    let blank : lent ≡ zeros_and_line = c.deref_mut.ensures.value ∙ memory.blank in
+    let wide = blank-length lent blank in
+    let front = length-take 65536 lent in
+    -- the answers had the room of a whole buffer
+    let room : length answers ≡ 65536 = omega (arith, wide, front, c.replay-done.auto.answers) in
     let done : Replayed M (new_state T) c.args.text.now (take 65536 lent) c.deref_mut-2.result.now r es τ answers log =
     search (told) in
-    let blank : lent ≡ zeros_and_line = c.deref_mut.ensures.value ∙ memory.blank in
     let all = blank-length _ memory.blank in
-    let front = length-take 65536 lent in
     let within = answers_within _ _ _ _ _ _ _ _ _ _ done c.replay-done.auto.answers in
     let rest = drop 65536 lent in
     subst (λ (s : _). Replays M (g.S.Server.table s.now) c.args.text.now (vec_items c.print_stop.new.printed) (vec_items c.truncate.new.self))

@@ -1,8 +1,8 @@
-use Rattle.std.proofs.Common.{rules, ◌≡◌, ℕ, ◌+◌, ◌<◌, List, [], ◌∷◌, ◌++◌, Result, length, get_or, take, drop, vec_items, sym, refl, ap, ◌∙◌, subst, arith, length-set, take_all}
+use Rattle.std.proofs.Common.{rules, ◌≡◌, ◌+◌, ◌<◌, List, [], ◌∷◌, ◌++◌, Result, length, get_or, take, drop, vec_items, sym, refl, ap, ◌∙◌, subst, arith, length-set, take_all}
 use Rattle.std.proofs.lemmas.List.{drop-set-lt, take_at}
 use Rattle.std.proofs.lemmas.Grind.{drop_more_same}
 use Rattle.refusal.specs.declared.Refusal.{Refusal}
-use Rattle.law.specs.States.{State, Event, new_state, after as after_event}
+use Rattle.law.specs.States.{State, new_state, after as after_event}
 use Rattle.law.specs.Law.{Due, Lawful, ends}
 use Rattle.law.proofs.Facts.{lawful_more}
 use Rattle.session.specs.States.{Holds}
@@ -47,7 +47,7 @@ loop-call-preserved g c =
     let in_before : i < length before = omega (arith, c.loop-call-test.true) in
     let was : get_or before i none ≡ b = sym (same_at after before i none in_after in_before inv.4) in
     let count : length replies ≡ i = omega (arith, inv.1, c.loop-call.replies.ok.0) in
-    let told : vec_items c.push_reserved.new.self ≡ replies ++ r ∷ [] = c.push_reserved.ensures.items in
+    let told : vec_items c.push_reserved.new.self ≡ replies ++ r ∷ [] = search (c.push_reserved.ensures.items) in
     let (τ, run, holds) = inv.5 in
     let e = event_of b d r in
     let step : Due M τ e × Holds (after_event τ e) x' = c.reply_to.ensures.law τ holds in

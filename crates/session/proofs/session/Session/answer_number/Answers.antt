@@ -1,4 +1,4 @@
-use Rattle.std.proofs.Common.{◌≡◌, ℕ, true, List, length, is_ok, sym, refl, ap, ◌∙◌, subst}
+use Rattle.std.proofs.Common.{◌≡◌, ℕ, true, List, length, is_ok, arith, sym, refl, ap, ◌∙◌, subst}
 use Rattle.std.proofs.lemmas.Result.{err_from_is_err_and}
 use Rattle.field.specs.Sums.{Vector, sum, weights_of}
 use Rattle.field.specs.declared.Element.{Element}
@@ -7,7 +7,7 @@ use Rattle.echelon.specs.Rows.{row_with}
 use Rattle.checks.specs.CheckedRows.{row_of}
 use Rattle.record.specs.Judged.{Adds}
 use Rattle.record.specs.Records.{rec_of}
-use Rattle.record.specs.Audits.{opened}
+use Rattle.record.specs.Audits.{opened, Answered}
 use Rattle.law.specs.States.{with_figure}
 use Rattle.session.specs.States.{open_of}
 use Rattle.session.proofs.Rows.{answered_ok, listed_is, closed_so}
@@ -38,7 +38,10 @@ went_in :
 went_in g c =
     let M = g.S.Over.Field.model in
     let x = c.args.self.now in
-    let (fine, adds) = answered_ok M _ _ _ _ _ _ c.answer.ensures.answered (c.args.number, c.in_ok-row.row) c.in_ok-row.ensures.row c.row_sum-figure.ensures.within in
+    let rec = rec_of c.answer.new.self.«record» in
+    let answered : Answered M x.audit.«record».count (rec_of x.audit.«record») (opened x.audit) c.row_sum-figure.result.0 rec c.answer.result =
+    search (c.answer.ensures.answered) in
+    let (fine, adds) = answered_ok M _ _ _ _ _ _ answered (c.args.number, c.in_ok-row.row) c.in_ok-row.ensures.row c.row_sum-figure.ensures.within in
     (fine, subst (λ (n : ℕ). Adds M n (rec_of x.audit.«record») (row_with (row_of c.in_ok-row.row) c.row_sum-figure.result.0) (rec_of c.answer.new.self.«record»)) x.counted adds)
 
 pub unwrap-requires : goal.unwrap-requires
@@ -52,10 +55,11 @@ returns-clause-law g c =
     let row = c.in_ok-row.row in
     let here = (goal.at.returns-clause-law g c).After-answer in
     let done = went_in g here in
+    let asked : c.row_sum-figure.result.0 ≡ sum M (length T) (weights_of c.weights.result.now) (value_at T) = search (c.row_sum-figure.ensures.is) in
     let figure : c.row_sum-figure.result.0 ≡ sum M (length T) (row_of row) (value_at T) =
-    c.row_sum-figure.ensures.is ∙ ap (λ (ws : List Element). sum M (length T) (weights_of ws) (value_at T)) c.weights.ensures.list
+    asked ∙ ap (λ (ws : List Element). sum M (length T) (weights_of ws) (value_at T)) c.weights.ensures.list
     ∙ ap (λ (w : Vector). sum M (length T) w (value_at T)) (listed_is row) in
-    answered_with g.met.S.Over.Field.laws x c.args.number c.row_sum-figure.result.0 (c.args.number, row) _
+    answered_with g.met.S.Over.Field.laws x c.args.number _ c.row_sum-figure.result.0 (omega arith) (c.args.number, row) _
     c.in_ok-row.ensures.row refl figure done.1
     (λ given. ap (λ o. record {
       table = T;

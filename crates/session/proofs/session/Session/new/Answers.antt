@@ -1,9 +1,6 @@
-use Rattle.std.proofs.Common.{◌≡◌, ℕ, List, [], length, sym, refl, ap, ◌∙◌, subst, arith}
-use Rattle.echelon.specs.Reduced.{Pivoted, ReducedForm}
+use Rattle.std.proofs.Common.{◌≡◌, [], length, ap, ◌∙◌, arith}
 use Rattle.record.specs.Records.{rec_of}
-use Rattle.log_record.proofs.Verdicts.{empty_form}
-use Rattle.law.proofs.Facts.{new_is_sound_lem}
-use Rattle.session.specs.States.{open_of}
+use Rattle.session.proofs.Followed.{new_holds}
 use Rattle.session.proofs.session.Session.new.Goals as goal
 
 pub invariant_of-result-clause-counted : goal.invariant_of-result-clause-counted
@@ -14,12 +11,5 @@ invariant_of-result-clause-counted g c =
 
 pub returns-clause-holds : goal.returns-clause-holds
 returns-clause-holds g c =
-    let M = g.S.Over.Field.model in
-    let L = g.met.S.Over.Field.laws in
-    let T = g.S.Server.table c.args.server in
     let none : rec_of c.new.result.«record» ≡ [] = ap rec_of c.new.ensures.«record» ∙ c.new-record.ensures.empty in
-    record {
-      is = ap (λ o. record { table = T; given = []; pending = open_of o; issued = 0 }) (sym c.new.ensures.none);
-      sound = new_is_sound_lem M L T c.count-count.ensures.lawful;
-      form = subst (λ (rec : List Pivoted). ReducedForm M (length T) [] rec) (sym none) (empty_form M (length T));
-    }
+    new_holds g.met.S.Over.Field.laws _ c.count-count.ensures.lawful (omega arith) c.new.ensures.none none

@@ -1,4 +1,4 @@
-use Rattle.std.proofs.Common.{◌≡◌, ℕ, ◌+◌, ◌<◌, Bool, true, false, List, length, is_some, Some, None, Option, sym, refl, ap, ◌∙◌, subst, arith}
+use Rattle.std.proofs.Common.{rules, ◌≡◌, ℕ, ◌+◌, ◌<◌, Bool, true, false, length, is_some, Some, None, sym, refl, ap, ◌∙◌, subst, arith}
 use Rattle.std.proofs.lemmas.Result.{err_from_is_err_and}
 use Rattle.field.specs.Sums.{Vector, weights_of}
 use Rattle.refusal.specs.declared.Refusal.TheVariants.{Discloses}
@@ -10,10 +10,10 @@ use Rattle.checks.specs.CheckedRows.{row_of}
 use Rattle.record.specs.Records.{rec_of}
 use Rattle.record.specs.Audits.{opened}
 use Rattle.law.specs.States.{submits, refused}
-use Rattle.session.specs.States.{open_of, Follows}
+use Rattle.session.specs.States.{Follows}
 use Rattle.session.specs.declared.session.Session.{Session}
 use Rattle.session.proofs.Rows.{made_check, same_session}
-use Rattle.session.proofs.Followed.{submit_open, submit_spent, submit_bad, submit_disclosing, granted}
+use Rattle.session.proofs.Followed.{event_is, submit_open, submit_spent, submit_bad, submit_disclosing, granted}
 use Rattle.session.proofs.session.Session.submit_row.Goals as goal
 use Rattle.session.proofs.session.Session.submit_row.Goals.{After-is_some, After-count}
 
@@ -45,8 +45,9 @@ returns-in_err-row-clause-law g c =
     let here = goal.at.returns-in_err-row-clause-law g c in
     let left : x.issued < 65535 = let ne = c.if-self.false in omega arith in
     let count : Count (length T) = subst Count x.counted x.audit.«record».members in
+    let made : RowMade M c.count.result ws (Some e) = search (c.in_err-row.ensures.made) in
     let fails : RowCheck M (length T) ws (Some e) =
-    made_check M (length T) ws (Some e) count (subst (λ (n : ℕ). RowMade M n ws (Some e)) (size g here.After-count) c.in_err-row.ensures.made) in
+    made_check M (length T) ws (Some e) count (subst (λ (n : ℕ). RowMade M n ws (Some e)) (size g here.After-count) made) in
     let p = err_from_is_err_and c.from_residual.result c.from_residual.ensures.1 in
     rw (p.1, p.2) (submit_bad g.met.S.Over.Field.laws x ws (open_so g here.After-is_some false c.if-is_some.false) left e fails)
 
@@ -73,16 +74,22 @@ returns-in-Err-clause-law g c =
     subst (λ (w : Vector). Lowest (PinnedWith M (length T) (rec_of x.audit.«record») w) i) weights
     (subst (λ (n : ℕ). Lowest (PinnedWith M n (rec_of x.audit.«record») (row_of row)) i) x.counted c.in-Err.ensures.pinned) in
     let same = same_session _ _ g.S.Server g.S.Over.Field x.server x.issued c.open.new.self x.audit c.in-Err.ensures.refused _ _ x.counted x.whole_row in
-    subst (λ (y : Session g.row.S.Denot g.row.S-Over.Denot g.S.Server g.S.Over.Field). Follows x (refused (submits ws) (Discloses (OfMember (record { 0 = i })))) y) (sym same)
-    (submit_disclosing g.met.S.Over.Field.laws x ws (open_so g here.After-is_some false c.if-is_some.false) left i passed low)
+    event_is g.met.S.Over.Field.laws x _ _ (refused (submits ws) (Discloses (OfMember (record { 0 = i })))) (search rules)
+    (subst (λ (y : Session g.row.S.Denot g.row.S-Over.Denot g.S.Server g.S.Over.Field). Follows x (refused (submits ws) (Discloses (OfMember (record { 0 = i })))) y) (sym same)
+    (submit_disclosing g.met.S.Over.Field.laws x ws (open_so g here.After-is_some false c.if-is_some.false) left i passed low))
 
 pub returns-clause-opens : goal.returns-clause-opens
-returns-clause-opens g c = record {
-  row = c.in_ok-row.row;
-  is = c.in_default.ensures.opened;
-  weights = c.in_ok-row.ensures.row;
-  members = c.in_ok-row.ensures.count ∙ size g (goal.at.returns-clause-opens g c).After-count;
-}
+returns-clause-opens g c =
+    let x = c.args.self.now in
+    let row = c.in_ok-row.row in
+    let is : opened c.open.new.self ≡ Some (x.issued + 1, row) = search (c.in_default.ensures.opened) in
+    let weights : row_of row ≡ weights_of c.args.weights.now = search (c.in_ok-row.ensures.row) in
+    record {
+      row = row;
+      is = is;
+      weights = weights;
+      members = c.in_ok-row.ensures.count ∙ size g (goal.at.returns-clause-opens g c).After-count;
+    }
 
 pub returns-clause-law : goal.returns-clause-law
 returns-clause-law g c =
@@ -96,10 +103,9 @@ returns-clause-law g c =
     let count : Count (length T) = subst Count x.counted x.audit.«record».members in
     let passed : RowCheck M (length T) ws None =
     made_check M (length T) ws None count (subst (λ (n : ℕ). RowMade M n ws None) (size g here.After-count) c.in_ok-row.ensures.made) in
-    let weights : row_of row ≡ weights_of ws = c.in_ok-row.ensures.row in
-    granted g.met.S.Over.Field.laws x ws (open_so g here.After-is_some false c.if-is_some.false) left _ passed
+    let weights : row_of row ≡ weights_of ws = search (c.in_ok-row.ensures.row) in
+    let pending : opened c.open.new.self ≡ Some (x.issued + 1, row) = search (c.in_default.ensures.opened) in
+    granted g.met.S.Over.Field.laws x ws (open_so g here.After-is_some false c.if-is_some.false) left _ row _ (omega arith) (omega arith) refl
+    pending weights c.in_default.ensures.«record» passed
     (subst (λ (w : Vector). (i : ℕ) → PinnedWith M (length T) (rec_of x.audit.«record») w i → ⊥) weights
     (subst (λ (n : ℕ). (i : ℕ) → PinnedWith M n (rec_of x.audit.«record») (row_of row) i → ⊥) x.counted c.in_default.ensures.free))
-    (λ given. ap (λ w. record { table = T; given = given; pending = Some (record { permit = x.issued + 1; row = w }); issued = x.issued + 1 }) (sym weights)
-    ∙ ap (λ o. record { table = T; given = given; pending = open_of o; issued = x.issued + 1 }) (sym c.in_default.ensures.opened))
-    c.in_default.ensures.«record»
