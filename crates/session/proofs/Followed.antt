@@ -210,15 +210,15 @@ module _ {S V : Type 0} {GS : server.Ghosts S V} {GV : field.Ghosts V} (L : Fiel
             subst (λ (r : Record V GV). ReducedForm GV.model (length (GS.table x.server)) given (rec_of r)) (sym same) form,
           ))
 
-      -- the session x' has issued one permit more, k, and its row is open
-      pub granted : (k : ℕ) (row : CheckedRow V GV) (x' : Session S V GS GV) → k ≡ x.issued + 1 → x'.issued ≡ x.issued + 1 → x'.server ≡ x.server
+      -- the session x' has issued one permit more, and its row is open
+      pub granted : (e : Event) (row : CheckedRow V GV) (x' : Session S V GS GV) → e ≡ permitted ws (x.issued + 1) → x'.issued ≡ x.issued + 1 → x'.server ≡ x.server
           → opened x'.audit ≡ Some (x.issued + 1, row) → row_of row ≡ weights_of ws → x'.audit.«record» ≡ x.audit.«record»
           → RowCheck GV.model (length (GS.table x.server)) ws None
           → ((i : ℕ) → PinnedWith GV.model (length (GS.table x.server)) (rec_of x.audit.«record») (weights_of ws) i → ⊥)
-          → Follows x (permitted ws k) x'
-      granted k row x' next issued server pending weights same passed free =
+          → Follows x e x'
+      granted e row x' event issued server pending weights same passed free =
           let n = x.issued + 1 in
-          subst (λ (m : ℕ). Follows x (permitted ws m) x') (sym next)
+          event_is x' e (permitted ws n) event
           (granted_so x' passed free
           (λ given. ap (λ w. record { table = GS.table x.server; given = given; pending = Some (record { permit = n; row = w }); issued = n }) (sym weights)
           ∙ ap (λ o. record { table = GS.table x.server; given = given; pending = open_of o; issued = n }) (sym pending)

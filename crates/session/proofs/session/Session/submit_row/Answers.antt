@@ -51,11 +51,6 @@ returns-in_err-row-clause-law g c =
     let p = err_from_is_err_and c.from_residual.result c.from_residual.ensures.1 in
     rw (p.1, p.2) (submit_bad g.met.S.Over.Field.laws x ws (open_so g here.After-is_some false c.if-is_some.false) left e fails)
 
-pub returns-in-Err-clause-refused : goal.returns-in-Err-clause-refused
-returns-in-Err-clause-refused g c =
-    let x = c.args.self.now in
-    same_session _ _ g.S.Server g.S.Over.Field x.server x.issued c.open.new.self x.audit c.in-Err.ensures.refused _ _ x.counted x.whole_row
-
 pub returns-in-Err-clause-law : goal.returns-in-Err-clause-law
 returns-in-Err-clause-law g c =
     let M = g.S.Over.Field.model in
@@ -78,18 +73,19 @@ returns-in-Err-clause-law g c =
     (subst (λ (y : Session g.row.S.Denot g.row.S-Over.Denot g.S.Server g.S.Over.Field). Follows x (refused (submits ws) (Discloses (OfMember (record { 0 = i })))) y) (sym same)
     (submit_disclosing g.met.S.Over.Field.laws x ws (open_so g here.After-is_some false c.if-is_some.false) left i passed low))
 
+pub returns-in-Err-clause-refused : goal.returns-in-Err-clause-refused
+returns-in-Err-clause-refused g c =
+    let x = c.args.self.now in
+    same_session _ _ g.S.Server g.S.Over.Field x.server x.issued c.open.new.self x.audit c.in-Err.ensures.refused _ _ x.counted x.whole_row
+
 pub returns-clause-opens : goal.returns-clause-opens
 returns-clause-opens g c =
     let x = c.args.self.now in
     let row = c.in_ok-row.row in
     let is : opened c.open.new.self ≡ Some (x.issued + 1, row) = search (c.in_default.ensures.opened) in
     let weights : row_of row ≡ weights_of c.args.weights.now = search (c.in_ok-row.ensures.row) in
-    record {
-      row = row;
-      is = is;
-      weights = weights;
-      members = c.in_ok-row.ensures.count ∙ size g (goal.at.returns-clause-opens g c).After-count;
-    }
+    let members : row.count ≡ length (g.S.Server.table x.server) = c.in_ok-row.ensures.count ∙ size g (goal.at.returns-clause-opens g c).After-count in
+    search (is, weights, members)
 
 pub returns-clause-law : goal.returns-clause-law
 returns-clause-law g c =
@@ -105,7 +101,7 @@ returns-clause-law g c =
     made_check M (length T) ws None count (subst (λ (n : ℕ). RowMade M n ws None) (size g here.After-count) c.in_ok-row.ensures.made) in
     let weights : row_of row ≡ weights_of ws = search (c.in_ok-row.ensures.row) in
     let pending : opened c.open.new.self ≡ Some (x.issued + 1, row) = search (c.in_default.ensures.opened) in
-    granted g.met.S.Over.Field.laws x ws (open_so g here.After-is_some false c.if-is_some.false) left _ row _ (omega arith) (omega arith) refl
+    granted g.met.S.Over.Field.laws x ws (open_so g here.After-is_some false c.if-is_some.false) left _ row _ (search rules) (omega arith) refl
     pending weights c.in_default.ensures.«record» passed
     (subst (λ (w : Vector). (i : ℕ) → PinnedWith M (length T) (rec_of x.audit.«record») w i → ⊥) weights
     (subst (λ (n : ℕ). (i : ℕ) → PinnedWith M n (rec_of x.audit.«record») (row_of row) i → ⊥) x.counted c.in_default.ensures.free))
