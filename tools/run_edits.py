@@ -28,6 +28,7 @@ PROGRAMS = {
     "member_map": ["table_tests", "log_cases"],
     "stored": ["table_tests", "log_cases"],
     "table_file": ["table_tests", "check_table"],
+    "checks": ["record_cases", "log_cases", "session_demo"],
     "record": ["record_cases", "session_demo", "log_cases", "record_compare"],
     "answer_log": ["log_cases", "log_compare"],
     "log_record": ["log_cases", "log_compare"],
