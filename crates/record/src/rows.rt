@@ -68,12 +68,23 @@ impl FiguredRow {
         ensures is { SameRow n (figured_row self.new) (cleared F.model (pivoted by.now) (figured_row self.old)) }
         ensures coded { CodedRow F.model n (figured_row self.new) }
     {
-        let factor = self.weights[by.pivot.0];
-        if factor.0 == 0 {
-            return;
+        if self.weights[by.pivot.0].0 != 0 {
+            self.take_away::<F>(by, n);
         }
-        let opposite = F::neg(factor);
+    }
+
+    // The same, over every weight: apart, so that a row with nothing to take away costs a look and no call.
+    fn take_away<F: Field>(&mut self, by: &RecordRow, n: usize)
+        requires few { n ≤ 64 }
+        requires pivot { by.now.pivot.0 < n }
+        requires coded { CodedRow F.model n (figured_row self.old) }
+        requires by_coded { CodedRow F.model n (figured_record_row by.now) }
+        requires by_lowest { (m : ℕ) → m < by.now.pivot.0 → weights_of by.now.row.weights m ≡ 0 }
+        ensures is { SameRow n (figured_row self.new) (cleared F.model (pivoted by.now) (figured_row self.old)) }
+        ensures coded { CodedRow F.model n (figured_row self.new) }
+    {
         let pivot = by.pivot.0;
+        let opposite = F::neg(self.weights[pivot]);
         for (k, weight) in self.weights[pivot..n].iter_mut().enumerate() {
             *weight = added::<F>(opposite, by.row.weights[pivot + k], *weight);
         }

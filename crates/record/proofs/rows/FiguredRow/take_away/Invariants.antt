@@ -1,6 +1,6 @@
 use Rattle.std.proofs.Common.{◌≡◌, ℕ, ◌+◌, ◌<◌, ◌≤◌}
 use Rattle.field.specs.Sums.{weights_of}
-use Rattle.record.proofs.rows.FiguredRow.clear.Given as goal
+use Rattle.record.proofs.rows.FiguredRow.take_away.Given as goal
 
 abbrev pub invariant-loop-k : goal.invariant-loop-k
 invariant-loop-k g l =
