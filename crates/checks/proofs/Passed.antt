@@ -1,5 +1,5 @@
 -- What a row that passed its checks has. Assumes nothing.
-use Rattle.std.proofs.Common.{◌≡◌, ℕ, List, length, None, sym, arith}
+use Rattle.std.proofs.Common.{◌≡◌, ℕ, List, length, None, arith}
 use Rattle.field.specs.Model.{FieldModel}
 use Rattle.field.specs.Sums.{Codes, weights_of}
 use Rattle.field.specs.declared.Element.{Element}

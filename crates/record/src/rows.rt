@@ -74,6 +74,7 @@ impl FiguredRow {
     }
 
     // The same, over every weight: apart, so that a row with nothing to take away costs a look and no call.
+    #[inline(never)]
     fn take_away<F: Field>(&mut self, by: &RecordRow, n: usize)
         requires few { n ≤ 64 }
         requires pivot { by.now.pivot.0 < n }

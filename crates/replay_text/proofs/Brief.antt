@@ -1,5 +1,5 @@
 -- What a line is told is short, and its figure an element: both by the law. Assumes nothing.
-use Rattle.std.proofs.Common.{◌≡◌, ℕ, ◌<◌, ◌≤◌, List, length, Some, None, Ok, Option, IfSome, refl, ap, ◌∙◌, subst, arith}
+use Rattle.std.proofs.Common.{◌≡◌, ℕ, ◌<◌, ◌≤◌, List, length, Some, None, Option, IfSome, refl, ap, ◌∙◌, subst, arith}
 use Rattle.std.specs.List.{AllByRecursion}
 use Rattle.refusal.specs.declared.Refusal.{Refusal}
 use Rattle.refusal.specs.Numbered.{number}
@@ -22,7 +22,7 @@ use Rattle.query.specs.declared.faults.ItemFault.TheVariants.{NoSpace, Number, R
 use Rattle.query.specs.declared.faults.LineFault.{LineFault}
 use Rattle.query.specs.declared.faults.LineFault.TheVariants.{TooLong, NoKind, Item, NotEnded}
 use Rattle.query.specs.declared.lines.Request.{Request}
-use Rattle.query.specs.Lines.{limits, reading}
+use Rattle.query.specs.Lines.{limits}
 use Rattle.query.specs.Refusals.{number_refusal, item_refusal, line_refusal}
 use Rattle.query.proofs.Places.{within}
 use Rattle.request.specs.Requests.{row, Asked, ask_refused, ask_answered, Tried, try_refused, try_granted, Served, ask, try, witness_refused, witness_filled, Handled, remark, faulty, served}

@@ -3,9 +3,8 @@ use Rattle.std.proofs.Common.{◌≡◌, ℕ, ◌≤◌, List, length, Ok, Err, 
 use Rattle.std.specs.List.{AllByRecursion}
 use Rattle.field.specs.declared.Field as field
 use Rattle.server.specs.declared.Server as server
-use Rattle.field.specs.Model.{FieldModel, FieldLaws}
+use Rattle.field.specs.Model.{FieldLaws}
 use Rattle.buffer.specs.Buffers.{Put}
-use Rattle.echelon.specs.Rows.{Figured}
 use Rattle.law.specs.States.{Event, answered_by}
 use Rattle.session.specs.States.{StandsForSome, members_of}
 use Rattle.session.specs.declared.session.Session.{Session}

@@ -1,5 +1,5 @@
 -- A line, by what it was read as: how the calls that it makes are those of the line. Assumes nothing.
-use Rattle.std.proofs.Common.{◌≡◌, ℕ, List, [], ◌∷◌, length, take, Some, None, Ok, Err, Option, Result, sym, ap, ◌∙◌, refl, subst}
+use Rattle.std.proofs.Common.{◌≡◌, ℕ, List, [], ◌∷◌, length, take, Ok, Err, Result, sym, ap, ◌∙◌, refl, subst}
 use Rattle.refusal.specs.declared.Member.{Member}
 use Rattle.refusal.specs.declared.Refusal.{Refusal}
 use Rattle.field.specs.declared.Field as field
@@ -11,7 +11,7 @@ use Rattle.law.specs.States as law
 use Rattle.law.specs.States.{witnesses, witnessed}
 use Rattle.checks.specs.declared.row.CheckedRow.{CheckedRow}
 use Rattle.law.specs.Law.{ends, goes_on}
-use Rattle.session.specs.States.{Holds, members_of, Leads}
+use Rattle.session.specs.States.{Holds, members_of}
 use Rattle.session.specs.declared.session.Session.{Session}
 use Rattle.query.specs.declared.items.Weights.{Weights}
 use Rattle.query.specs.declared.faults.LineFault.{LineFault}
@@ -21,9 +21,7 @@ use Rattle.query.specs.Lines.{limits, reading}
 use Rattle.answer_text.specs.AnswerLines.{figure, granted, table, refused}
 use Rattle.request.specs.Requests.{row, Asked, Tried, Served, ask, try, witness_refused, witness_filled, remark, faulty, served}
 use Rattle.request.specs.Carried.{AsksRow, TriesRow, MakesWitness, CarriedOut}
-use Rattle.request.specs.declared.faults.RequestFault.{RequestFault}
 use Rattle.request.specs.declared.faults.RequestFault.TheVariants.{Line, Call}
-use Rattle.request.specs.declared.outcome.Outcome.{Outcome}
 use Rattle.request.specs.declared.outcome.Outcome.TheVariants.{Skipped, Answered, Granted, Filled}
 
 pub read_as :

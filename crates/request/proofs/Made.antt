@@ -6,12 +6,12 @@ use Rattle.field.specs.declared.Field as field
 use Rattle.server.specs.declared.Server as server
 use Rattle.field.specs.declared.Element.{Element}
 use Rattle.law.specs.States.{State, Event, submits, refused, permitted, answered, withdrew, after}
-use Rattle.law.specs.Law.{Lawful, ends, goes_on}
+use Rattle.law.specs.Law.{ends, goes_on}
 use Rattle.field.specs.Sums.{weights_of}
 use Rattle.echelon.specs.Rows.{row_with}
 use Rattle.checks.specs.declared.row.CheckedRow.{CheckedRow}
 use Rattle.checks.specs.CheckedRows.{row_of}
-use Rattle.session.specs.States.{server_of, members_of, open_permit, open_row_of, IsOpenRow, Holds, Follows, Leads}
+use Rattle.session.specs.States.{server_of, members_of, open_permit, open_row_of, IsOpenRow, Follows, Leads}
 use Rattle.session.specs.declared.session.Session.{Session}
 use Rattle.request.specs.Requests.{ask_refused, ask_answered, try_refused, try_granted}
 use Rattle.request.specs.Carried.{IsThatRow, AsksRow, TriesRow}

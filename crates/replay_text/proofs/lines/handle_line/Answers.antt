@@ -1,10 +1,8 @@
 use Rattle.std.proofs.Common.{ℕ, length, IfSome, sym, subst}
 use Rattle.buffer.specs.Buffers.{Put}
-use Rattle.log_record.specs.Joins.{rows_bytes}
 use Rattle.answer_text.specs.AnswerLines.{Short}
-use Rattle.request.specs.Carried.{outcome_told, outcome_rows}
+use Rattle.request.specs.Carried.{outcome_told}
 use Rattle.replay_text.specs.Replays.{printed}
-use Rattle.replay_text.specs.Handling.{Loggable}
 use Rattle.replay_text.proofs.Handling.{told_short, row_loggable, line_done}
 use Rattle.replay_text.proofs.lines.handle_line.Goals as goal
 

@@ -1,4 +1,4 @@
-use Rattle.std.proofs.Common.{rules, ◌≡◌, ℕ, Ok, Result, length, ap, ◌∙◌, subst}
+use Rattle.std.proofs.Common.{rules, ◌≡◌, Ok, Result, length, subst}
 use Rattle.checks.specs.CheckedRows.{row_of}
 use Rattle.request.specs.declared.faults.RequestFault.{RequestFault}
 use Rattle.request.specs.declared.outcome.Outcome.{Outcome}

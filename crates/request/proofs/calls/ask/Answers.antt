@@ -1,9 +1,9 @@
-use Rattle.std.proofs.Common.{◌≡◌, Some, Option, Result, is_some, sym, ap, ◌∙◌, subst, arith}
+use Rattle.std.proofs.Common.{Result, is_some, sym, ap, ◌∙◌, subst, arith}
 use Rattle.std.proofs.lemmas.Result.{err_from_is_err_and}
 use Rattle.refusal.specs.declared.Refusal.{Refusal}
 use Rattle.field.specs.declared.Element.{Element}
 use Rattle.law.specs.States.{answered}
-use Rattle.session.specs.States.{members_of, open_row_of, Follows, answer_event}
+use Rattle.session.specs.States.{members_of, Follows, answer_event}
 use Rattle.request.specs.Carried.{IsThatRow}
 use Rattle.request.proofs.Made.{open_number, not_refused, ask_refused_so, opened_some, opened_row, ask_answered_so}
 use Rattle.request.proofs.calls.ask.Goals as goal

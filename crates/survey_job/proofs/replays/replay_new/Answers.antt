@@ -1,5 +1,5 @@
 -- Answers for `replay_new`: the replay goes on from the state of the new session.
-use Rattle.std.proofs.Common.{◌≡◌, ℕ, List, [], ◌++◌, length, take, drop, vec_items, sym, ap, ◌∙◌, subst, arith}
+use Rattle.std.proofs.Common.{◌≡◌, ℕ, List, ◌++◌, length, take, drop, vec_items, ap, ◌∙◌, subst, arith}
 use Rattle.std.proofs.lemmas.List.{length-take}
 use Rattle.law.specs.States.{new_state}
 use Rattle.replay_text.specs.Replays.{Replayed}
