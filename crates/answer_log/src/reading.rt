@@ -2,7 +2,7 @@
 ghost use Rattle.std.specs.Prelude.{◌≡◌, ℕ, ◌<◌, ◌≤◌, true, length, drop, Some, None, OnOk, IfOk, IfErr, MatchResult};
 ghost use Rattle.field.specs.Sums.{weights_of};
 ghost use Rattle.server.specs.Checks.{Count};
-ghost use Rattle.checks.specs.CheckedRows.{row_of};
+ghost use Rattle.checks.specs.CheckedRows.{row_members, row_of};
 ghost use Rattle.member_map.specs.Maps.{named, named_below};
 ghost use Rattle.answer_log.specs.Entries.{mark_of, map_of, figure_place, row_weight, Named, Framed, Faulty, Weighed, EntryCheck, Reads, RowAt, HeaderCheck};
 
@@ -130,7 +130,7 @@ impl RowBytes<'_> {
         requires { Framed F.model self.now.count self.now.bytes.now }
         ensures weighed { OnOk result (Weighed F.model self.now.count self.now.bytes.now) }
         ensures row { IfOk result (λ w. (m : ℕ) → m < self.now.count → row_of w m ≡ row_weight F.model self.now.count self.now.bytes.now m) }
-        ensures count { IfOk result (λ w. w.count ≡ self.now.count) }
+        ensures count { IfOk result (λ w. row_members w ≡ self.now.count) }
         ensures refused { IfErr result (λ e. EntryCheck F.model self.now.count self.now.row self.now.bytes.now (Some e)) }
     {
         let weights = self.read_weights::<F>()?;
@@ -144,7 +144,7 @@ impl RowBytes<'_> {
     // The row that the bytes begin with, where `next` is how many bytes it has.
     fn read<F: Field>(&self) -> Result<LogEntry<F>, Refusal>
         ensures row { IfOk result (λ e. Reads F.model self.now.count self.now.row self.now.bytes.now (row_of e.row) e.figure.0 e.next) }
-        ensures count { IfOk result (λ e. e.row.count ≡ self.now.count) }
+        ensures count { IfOk result (λ e. row_members e.row ≡ self.now.count) }
         ensures refused { IfErr result (λ e. EntryCheck F.model self.now.count self.now.row self.now.bytes.now (Some e)) }
     {
         let place = self.find_figure::<F>()?;
@@ -166,7 +166,7 @@ pub fn read_row<F: Field>(
     row: LogRow,
 ) -> Result<LogEntry<F>, Refusal>
     ensures row { IfOk result (λ e. RowAt F.model n row bytes.now at (row_of e.row) e.figure.0 e.next) }
-    ensures count { IfOk result (λ e. e.row.count ≡ n) }
+    ensures count { IfOk result (λ e. row_members e.row ≡ n) }
     ensures refused { IfErr result (λ e. EntryCheck F.model n row (drop at bytes.now) (Some e)) }
 {
     if !is_count(n) {

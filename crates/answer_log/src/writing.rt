@@ -1,7 +1,7 @@
 // Writing a log: the header, and row after row. The caller lends the rest of the log's buffer.
 ghost use Rattle.std.specs.Prelude.{◌≡◌, length, Some, None, OnOk, IfOk, OnErr, IfErr};
 ghost use Rattle.refusal.specs.declared.LogRow.{LogRow};
-ghost use Rattle.checks.specs.CheckedRows.{row_of};
+ghost use Rattle.checks.specs.CheckedRows.{row_members, row_of};
 ghost use Rattle.buffer.specs.Buffers.{Put};
 ghost use Rattle.answer_log.specs.Rows.{header_bytes, row_bytes};
 ghost use Rattle.answer_log.specs.Entries.{Reads};
@@ -34,10 +34,10 @@ pub fn write_row<F: Field>(
     figure: Element,
     out: &mut [u8],
 ) -> Result<usize, Refusal>
-    ensures written { OnOk result (RowWrite F.model row.now.count (row_of row.now) figure.0 (length out.old) None) }
-    ensures bytes { IfOk result (λ k. Put (row_bytes F.model row.now.count (row_of row.now) figure.0) out.old out.new k) }
-    ensures reads { IfOk result (λ k. (number : LogRow) → Reads F.model row.now.count number out.new (row_of row.now) figure.0 k) }
-    ensures refused { IfErr result (λ e. RowWrite F.model row.now.count (row_of row.now) figure.0 (length out.old) (Some e)) }
+    ensures written { OnOk result (RowWrite F.model (row_members row.now) (row_of row.now) figure.0 (length out.old) None) }
+    ensures bytes { IfOk result (λ k. Put (row_bytes F.model (row_members row.now) (row_of row.now) figure.0) out.old out.new k) }
+    ensures reads { IfOk result (λ k. (number : LogRow) → Reads F.model (row_members row.now) number out.new (row_of row.now) figure.0 k) }
+    ensures refused { IfErr result (λ e. RowWrite F.model (row_members row.now) (row_of row.now) figure.0 (length out.old) (Some e)) }
     ensures kept { OnErr result (out.new ≡ out.old) }
 {
     if figure.0 >= F::size() {

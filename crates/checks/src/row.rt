@@ -53,12 +53,12 @@ impl<F: Field> Copy for CheckedRow<F> {}
 impl<F: Field> CheckedRow<F> {
     ghost use Rattle.std.specs.Prelude.{IfOk};
     ghost use Rattle.checks.specs.Checks.{RowMade};
-    ghost use Rattle.checks.specs.CheckedRows.{row_of, listed_row};
+    ghost use Rattle.checks.specs.CheckedRows.{row_members, row_of, listed_row};
 
     // The row of these weights, for `n` members, where it passes its checks.
     pub fn new(weights: &[Element], n: usize) -> Result<CheckedRow<F>, Refusal>
         ensures made { MatchResult result (λ _. RowMade F.model n weights.now None) (λ e. RowMade F.model n weights.now (Some e)) }
-        ensures count { IfOk result (λ r. r.count ≡ n) }
+        ensures count { IfOk result (λ r. row_members r ≡ n) }
         ensures row { IfOk result (λ r. row_of r ≡ weights_of weights.now) }
         ensures list { IfOk result (λ r. listed_row r ≡ weights.now) }
     {
@@ -75,7 +75,7 @@ impl<F: Field> CheckedRow<F> {
 
     // How many members the row is of.
     pub fn count(&self) -> usize
-        ensures { result ≡ self.now.count }
+        ensures { result ≡ row_members self.now }
     {
         self.count
     }
@@ -83,7 +83,7 @@ impl<F: Field> CheckedRow<F> {
     // The weights of its members.
     pub fn weights(&self) -> &[Element]
         ensures list { result.now ≡ listed_row self.now }
-        ensures length { length result.now ≡ self.now.count }
+        ensures length { length result.now ≡ row_members self.now }
     {
         &self.weights[..self.count]
     }

@@ -4,7 +4,7 @@ ghost use Rattle.server.specs.Checks.{Count};
 ghost use Rattle.server.specs.Tables.{bounded};
 ghost use Rattle.echelon.specs.Rows.{Figured};
 ghost use Rattle.echelon.specs.Reduced.{ReducedForm};
-ghost use Rattle.record.specs.Records.{rec_of};
+ghost use Rattle.record.specs.Records.{record_members, rec_of};
 ghost use Rattle.log_record.specs.Joins.{RowsJoin, RowsRead, LogRecord, LogRead};
 
 use crate::joining::join_row;
@@ -24,9 +24,9 @@ pub struct ReadLog<F: Field> {
 // Takes row after row of a log into an empty record.
 fn read_rows<F: Field>(held: &mut Record<F>, log: &[u8]) -> Result<(), Refusal>
     requires empty { rec_of held.old ≡ [] }
-    ensures count { held.new.count ≡ held.old.count }
-    ensures joins { OnOk result (RowsRead F.model held.old.count log.now (rec_of held.new)) }
-    ensures refused { IfErr result (λ e. RowsJoin F.model held.old.count 0 [] (drop 2 log.now) (Some e) []) }
+    ensures count { record_members held.new ≡ record_members held.old }
+    ensures joins { OnOk result (RowsRead F.model (record_members held.old) log.now (rec_of held.new)) }
+    ensures refused { IfErr result (λ e. RowsJoin F.model (record_members held.old) 0 [] (drop 2 log.now) (Some e) []) }
 {
     let n = held.count();
     for (row, entry) in LogRows::<F>::new(log, n).enumerate() {
@@ -39,8 +39,8 @@ fn read_rows<F: Field>(held: &mut Record<F>, log: &[u8]) -> Result<(), Refusal>
 // Header and rows of a log for a server of `n` members.
 fn read_log<F: Field>(held: &mut Record<F>, n: usize, log: &[u8]) -> Result<(), Refusal>
     requires empty { rec_of held.old ≡ [] }
-    requires count { held.old.count ≡ bounded n }
-    ensures count { held.new.count ≡ bounded n }
+    requires count { record_members held.old ≡ bounded n }
+    ensures count { record_members held.new ≡ bounded n }
     ensures log { OnOk result (LogRead F.model n log.now (rec_of held.new)) }
     ensures refused { IfErr result (λ e. LogRecord F.model n log.now (Some e) []) }
 {
@@ -50,7 +50,7 @@ fn read_log<F: Field>(held: &mut Record<F>, n: usize, log: &[u8]) -> Result<(), 
 
 // Reads a log for a server of `n` members. Its rows join the record with the log's figures; no table is looked at.
 pub fn read_record<F: Field>(room: Room, n: usize, log: &[u8]) -> ReadLog<F>
-    ensures count { result.record.count ≡ bounded n }
+    ensures count { record_members result.record ≡ bounded n }
     ensures log { (given : List Figured) × LogRecord F.model n log.now result.refusal given × ReducedForm F.model n given (rec_of result.record) }
     ensures empty { result.refusal ≢ None → rec_of result.record ≡ [] }
 {

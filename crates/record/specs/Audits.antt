@@ -1,4 +1,5 @@
 -- An audit in memory: a record, and the row that is open, if any.
+--   audited a              its record
 --   opened a               the open row, with its permit
 --   PinnedBeside M a r i   member i is pinned by the record's rows with r
 --   Answered M n rec o f rec' s   s is what the answer f to the open row o comes to, and rec' the record after it
@@ -18,7 +19,11 @@ use Rattle.record.specs.Judged.{Adds, FitsBoth}
 use Rattle.record.specs.Records.{rec_of}
 use Rattle.record.specs.declared.judge.Admission.{Admission}
 use Rattle.record.specs.declared.judge.Admission.TheVariants.{Joined, Kept}
+use Rattle.record.specs.declared.record.Record.{Record}
 use Rattle.record.specs.declared.audit.Audit.{Audit}
+
+abbrev pub audited : {F : Type 0} {G : Ghosts F} → Audit F G → Record F G
+audited a = a.«record»
 
 abbrev pub opened : {F : Type 0} {G : Ghosts F} → Audit F G → Option (ℕ × CheckedRow F G)
 opened a = option_map (λ p. (p.permit, p.row)) a.pending

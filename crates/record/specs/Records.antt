@@ -1,4 +1,5 @@
 -- A record in memory, as a record of the theory.
+--   record_members r     over how many members it is
 --   rec_of r             its rows
 --   AloneBeside r e i    member i stands alone in a row of r cleared by e, or in e
 --   MayTake r w x        x was worked out of the row w, and may join the rows of r
@@ -15,6 +16,9 @@ use Rattle.record.specs.declared.record.Record.{Record}
 use Rattle.record.specs.declared.rows.FreshRow.{FreshRow}
 use Rattle.record.specs.Rows.{all_pivoted}
 use Rattle.record.specs.Standings.{MayJoin}
+
+abbrev pub record_members : {F : Type 0} {G : Ghosts F} → Record F G → ℕ
+record_members r = r.count
 
 abbrev pub rec_of : {F : Type 0} {G : Ghosts F} → Record F G → List Pivoted
 rec_of r = all_pivoted (vec_items r.rows)

@@ -29,11 +29,12 @@ impl<F: Field> Audit<F> {
     ghost use Rattle.std.specs.Prelude.{◌≡◌, ℕ, Some, None, OnOk, OnErr, IfErr};
     ghost use Rattle.server.specs.Checks.{Lowest};
     ghost use Rattle.checks.specs.CheckedRows.{row_of};
-    ghost use Rattle.record.specs.Audits.{opened, PinnedBeside, Answered};
+    ghost use Rattle.record.specs.Records.{record_members};
+    ghost use Rattle.record.specs.Audits.{audited, opened, PinnedBeside, Answered};
 
     // An audit of a record, with no row open.
     pub fn new(record: Record<F>) -> Audit<F>
-        ensures record { result.«record» ≡ «record» }
+        ensures record { audited result ≡ «record» }
         ensures none { opened result ≡ None }
     {
         Audit {
@@ -44,7 +45,7 @@ impl<F: Field> Audit<F> {
 
     // The record, to be read.
     pub fn record(&self) -> &Record<F>
-        ensures { result.now ≡ self.now.«record» }
+        ensures { result.now ≡ audited self.now }
     {
         &self.record
     }
@@ -60,7 +61,7 @@ impl<F: Field> Audit<F> {
     pub fn open(&mut self, permit: u16, row: CheckedRow<F>) -> Result<(), Member>
         ensures pinned { IfErr result (λ i. Lowest (PinnedBeside F.model self.old (row_of row)) i.0) }
         ensures free { OnOk result ((i : ℕ) → PinnedBeside F.model self.old (row_of row) i → ⊥) }
-        ensures record { self.new.«record» ≡ self.old.«record» }
+        ensures record { audited self.new ≡ audited self.old }
         ensures opened { OnOk result (opened self.new ≡ Some (permit, row)) }
         ensures refused { OnErr result (self.new ≡ self.old) }
     {
@@ -75,7 +76,7 @@ impl<F: Field> Audit<F> {
 
     // Forgets the open row.
     pub fn close(&mut self)
-        ensures record { self.new.«record» ≡ self.old.«record» }
+        ensures record { audited self.new ≡ audited self.old }
         ensures none { opened self.new ≡ None }
     {
         self.pending = None;
@@ -83,8 +84,8 @@ impl<F: Field> Audit<F> {
 
     // Takes the open row into the record with its figure, and no row is open then.
     pub fn answer(&mut self, figure: Element) -> Result<Admission, Refusal>
-        ensures answered { Answered F.model self.old.«record».count (rec_of self.old.«record») (opened self.old) figure.0 (rec_of self.new.«record») result }
-        ensures count { self.new.«record».count ≡ self.old.«record».count }
+        ensures answered { Answered F.model (record_members (audited self.old)) (rec_of (audited self.old)) (opened self.old) figure.0 (rec_of (audited self.new)) result }
+        ensures count { record_members (audited self.new) ≡ record_members (audited self.old) }
         ensures closed { OnOk result (opened self.new ≡ None) }
         ensures refused { OnErr result (self.new ≡ self.old) }
     {

@@ -49,14 +49,14 @@ impl<F: Field> Record<F> {
     ghost use Rattle.echelon.specs.Witness.{Free, Leads, Witness};
     ghost use Rattle.checks.specs.Checks.{WitnessCheck};
     ghost use Rattle.checks.specs.CheckedRows.{row_of};
-    ghost use Rattle.record.specs.Records.{rec_of, AloneBeside, MayTake, Along};
+    ghost use Rattle.record.specs.Records.{record_members, rec_of, AloneBeside, MayTake, Along};
     ghost use Rattle.record.specs.Judged.{Judged, Adds, FitsBoth, Admitted};
     ghost use Rattle.echelon.specs.Rows.{row_with};
     ghost use Rattle.record.specs.Standings.{unfigured, Stands};
 
     // An empty record for a count of members, which every server has between 1 and 64.
     pub fn new(room: Room, count: usize) -> Record<F>
-        ensures count { result.count ≡ bounded count }
+        ensures count { record_members result ≡ bounded count }
         ensures empty { rec_of result ≡ [] }
     {
         Record {
@@ -68,7 +68,7 @@ impl<F: Field> Record<F> {
 
     // Forgets every row.
     pub fn clear(&mut self)
-        ensures count { self.new.count ≡ self.old.count }
+        ensures count { record_members self.new ≡ record_members self.old }
         ensures empty { rec_of self.new ≡ [] }
     {
         self.rows.clear();
@@ -76,7 +76,7 @@ impl<F: Field> Record<F> {
 
     // How many members there are.
     pub fn count(&self) -> usize
-        ensures { result ≡ self.now.count }
+        ensures { result ≡ record_members self.now }
     {
         self.count
     }
@@ -97,8 +97,8 @@ impl<F: Field> Record<F> {
 
     // A row without its figure, less what the record rows take from it.
     fn leftover(&self, row: &CheckedRow<F>) -> FiguredRow
-        ensures is { SameRow self.now.count (figured_row result) (leftover F.model (rec_of self.now) (unfigured (row_of row.now))) }
-        ensures coded { CodedRow F.model self.now.count (figured_row result) }
+        ensures is { SameRow (record_members self.now) (figured_row result) (leftover F.model (rec_of self.now) (unfigured (row_of row.now))) }
+        ensures coded { CodedRow F.model (record_members self.now) (figured_row result) }
     {
         let mut left = FiguredRow {
             weights: row.places(),
@@ -113,8 +113,8 @@ impl<F: Field> Record<F> {
 
     // The lowest member that stands alone once `fresh` has joined.
     fn lowest_alone(&self, fresh: &RecordRow) -> Option<Member>
-        requires pivot { fresh.now.pivot.0 < self.now.count }
-        requires coded { CodedRow F.model self.now.count (figured (pivoted fresh.now)) }
+        requires pivot { fresh.now.pivot.0 < record_members self.now }
+        requires coded { CodedRow F.model (record_members self.now) (figured (pivoted fresh.now)) }
         requires lowest { (m : ℕ) → m < fresh.now.pivot.0 → weights_of fresh.now.row.weights m ≡ 0 }
         requires own { weights_of fresh.now.row.weights fresh.now.pivot.0 ≡ 1 }
         requires others { (a : ℕ) → a < length (rec_of self.now) → weights_of fresh.now.row.weights (at (rec_of self.now) a).pivot ≡ 0 }
@@ -132,7 +132,7 @@ impl<F: Field> Record<F> {
 
     // What a row would do to the record, whatever its figure.
     pub(crate) fn assess(&self, row: &CheckedRow<F>) -> Standing
-        ensures { Stands F.model self.now.count (rec_of self.now) (row_of row.now) result }
+        ensures { Stands F.model (record_members self.now) (rec_of self.now) (row_of row.now) result }
     {
         let left = self.leftover(row);
         let Some(fresh) = left.with_pivot::<F>(self.count) else {
@@ -146,7 +146,7 @@ impl<F: Field> Record<F> {
 
     // How a row stands to the record, in the sense of tables.
     pub fn judge(&self, row: &CheckedRow<F>) -> Judgement
-        ensures { Judged F.model self.now.count (rec_of self.now) (row_of row.now) result }
+        ensures { Judged F.model (record_members self.now) (rec_of self.now) (row_of row.now) result }
     {
         match self.assess(row) {
             Standing::Fixed(left) => Judgement::Fixed(F::neg(left)),
@@ -171,12 +171,12 @@ impl<F: Field> Record<F> {
     // Puts a row in before row `k`, and clears its pivot from the others.
     fn join(&mut self, fresh: RecordRow, k: RowNumber)
         requires place { k.0 ≤ length (rec_of self.old) }
-        requires pivot { fresh.pivot.0 < self.old.count }
-        requires coded { CodedRow F.model self.old.count (figured_record_row fresh) }
-        requires reduced { Reduced F.model self.old.count (joined F.model (pivoted fresh) k.0 (rec_of self.old)) }
-        requires none_alone { NoneAlone self.old.count (joined F.model (pivoted fresh) k.0 (rec_of self.old)) }
-        ensures count { self.new.count ≡ self.old.count }
-        ensures is { Same self.old.count (joined F.model (pivoted fresh) k.0 (rec_of self.old)) (rec_of self.new) }
+        requires pivot { fresh.pivot.0 < record_members self.old }
+        requires coded { CodedRow F.model (record_members self.old) (figured_record_row fresh) }
+        requires reduced { Reduced F.model (record_members self.old) (joined F.model (pivoted fresh) k.0 (rec_of self.old)) }
+        requires none_alone { NoneAlone (record_members self.old) (joined F.model (pivoted fresh) k.0 (rec_of self.old)) }
+        ensures count { record_members self.new ≡ record_members self.old }
+        ensures is { Same (record_members self.old) (joined F.model (pivoted fresh) k.0 (rec_of self.old)) (rec_of self.new) }
     {
         clear_rows::<F>(&mut self.rows, &fresh, self.count);
         self.rows.insert(k.0, fresh).unwrap();
@@ -186,9 +186,9 @@ impl<F: Field> Record<F> {
     pub(crate) fn take(&mut self, fresh: &FreshRow, figure: Element)
         requires figure { figure.0 < F.model.size }
         requires joins { (w : Vector) × MayTake self.old w fresh.now }
-        ensures count { self.new.count ≡ self.old.count }
-        ensures fits { (w : Vector) → MayTake self.old w fresh.now → FitsBoth F.model self.old.count (rec_of self.old) (row_with w figure.0) (rec_of self.new) }
-        ensures adds { (w : Vector) → MayTake self.old w fresh.now → Adds F.model self.old.count (rec_of self.old) (row_with w figure.0) (rec_of self.new) }
+        ensures count { record_members self.new ≡ record_members self.old }
+        ensures fits { (w : Vector) → MayTake self.old w fresh.now → FitsBoth F.model (record_members self.old) (rec_of self.old) (row_with w figure.0) (rec_of self.new) }
+        ensures adds { (w : Vector) → MayTake self.old w fresh.now → Adds F.model (record_members self.old) (rec_of self.old) (row_with w figure.0) (rec_of self.new) }
     {
         let row = fresh.figured::<F>(figure);
         let k = self.place_of(row.pivot);
@@ -198,8 +198,8 @@ impl<F: Field> Record<F> {
     // Takes a row with its figure into the record. Where that would pin a member, it is refused, and a row that is
     // fixed already changes nothing.
     pub fn admit(&mut self, row: &CheckedRow<F>, figure: Element) -> Result<Admission, Refusal>
-        ensures admitted { Admitted F.model self.old.count (rec_of self.old) (row_of row.now) figure.0 (rec_of self.new) result }
-        ensures count { self.new.count ≡ self.old.count }
+        ensures admitted { Admitted F.model (record_members self.old) (rec_of self.old) (row_of row.now) figure.0 (rec_of self.new) result }
+        ensures count { record_members self.new ≡ record_members self.old }
     {
         if figure.0 >= F::size() {
             return Err(Refusal::NotAnElement(Site::Nothing));
@@ -216,10 +216,10 @@ impl<F: Field> Record<F> {
 
     // The free member and the factor that a member and an element call for.
     fn lead(&self, member: Member, element: Element) -> (Member, Element)
-        requires member { member.0 < self.now.count }
+        requires member { member.0 < record_members self.now }
         requires element { element.0 < F.model.size }
-        ensures leads { Leads F.model self.now.count (rec_of self.now) member.0 element.0 result.0.0 result.1.0 }
-        ensures below { result.0.0 < self.now.count }
+        ensures leads { Leads F.model (record_members self.now) (rec_of self.now) member.0 element.0 result.0.0 result.1.0 }
+        ensures below { result.0.0 < record_members self.now }
         ensures free { Free (rec_of self.now) result.0.0 }
         ensures factor { result.1.0 < F.model.size }
     {
@@ -238,11 +238,11 @@ impl<F: Field> Record<F> {
 
     // Writes a table that fits the record, moved by `factor` along the direction of a free member.
     fn fill(&self, free: Member, factor: Element, out: &mut [Element])
-        requires length { length out.old ≡ self.now.count }
-        requires below { free.0 < self.now.count }
+        requires length { length out.old ≡ record_members self.now }
+        requires below { free.0 < record_members self.now }
         requires free { Free (rec_of self.now) free.0 }
         requires factor { factor.0 < F.model.size }
-        ensures { Along F.model self.now.count (rec_of self.now) free.0 factor.0 (weights_of out.new) }
+        ensures { Along F.model (record_members self.now) (rec_of self.now) free.0 factor.0 (weights_of out.new) }
     {
         out.fill(Element(0));
         out[free.0] = factor;
@@ -259,12 +259,12 @@ impl<F: Field> Record<F> {
         element: Element,
         out: &mut [Element],
     ) -> Result<(), Refusal>
-        ensures passed { OnOk result (WitnessCheck F.model self.now.count member.0 element.0 (length out.old) None) }
-        ensures refused { IfErr result (λ e. WitnessCheck F.model self.now.count member.0 element.0 (length out.old) (Some e)) }
-        ensures witness { OnOk result (Witness F.model self.now.count (rec_of self.now) member.0 element.0 (weights_of out.new)) }
+        ensures passed { OnOk result (WitnessCheck F.model (record_members self.now) member.0 element.0 (length out.old) None) }
+        ensures refused { IfErr result (λ e. WitnessCheck F.model (record_members self.now) member.0 element.0 (length out.old) (Some e)) }
+        ensures witness { OnOk result (Witness F.model (record_members self.now) (rec_of self.now) member.0 element.0 (weights_of out.new)) }
         ensures element { OnOk result (weights_of out.new member.0 ≡ element.0) }
-        ensures codes { OnOk result (Codes F.model self.now.count (weights_of out.new)) }
-        ensures fits { OnOk result (Fits F.model self.now.count (all_figured (rec_of self.now)) (weights_of out.new)) }
+        ensures codes { OnOk result (Codes F.model (record_members self.now) (weights_of out.new)) }
+        ensures fits { OnOk result (Fits F.model (record_members self.now) (all_figured (rec_of self.now)) (weights_of out.new)) }
         ensures kept { OnErr result (out.new ≡ out.old) }
     {
         if member.0 >= self.count {

@@ -13,9 +13,12 @@ pub struct Room {
 }
 
 impl Room {
+    ghost use Rattle.record.specs.Rooms.{room_rows, room_capacity};
+
     // Fails only for want of memory.
     pub fn new(heap: Global) -> Result<Room, AllocError>
-        ensures { IfOk result (λ m. (m.rows.items ≡ []) × (64 ≤ vec_capacity m.rows)) }
+        ensures empty { IfOk result (λ m. room_rows m ≡ []) }
+        ensures wide { IfOk result (λ m. 64 ≤ room_capacity m) }
     {
         let mut rows = Vec::new(heap);
         rows.reserve(64)?;

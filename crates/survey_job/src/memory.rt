@@ -24,9 +24,12 @@ pub struct JobMemory {
 }
 
 impl JobMemory {
+    ghost use Rattle.survey_job.specs.Memory.{room_for_answers, room_for_log};
+
     // Fails only for want of memory.
     pub fn new(heap: Global) -> Result<JobMemory, AllocError>
-        ensures { IfOk result (λ m. (m.printed.items ≡ zeros_and_line) × (m.log.items ≡ zeros)) }
+        ensures answers { IfOk result (λ m. room_for_answers m ≡ zeros_and_line) }
+        ensures log { IfOk result (λ m. room_for_log m ≡ zeros) }
     {
         let room = Room::new(heap)?;
         let printed = Vec::from_elem(heap, 0, ROOM + LONGEST_LINE)?;
