@@ -3,6 +3,7 @@
 --   opened a               the open row, with its permit
 --   PinnedBeside M a r i   member i is pinned by the record's rows with r
 --   Answered M n rec o f rec' s   s is what the answer f to the open row o comes to, and rec' the record after it
+--   AnsweredIn a f a' s    the same of two audits in memory
 -- Assumes nothing.
 use Rattle.std.specs.Prelude.{◌≡◌, ℕ, ◌<◌, ◌≤◌, List, Some, None, Option, Ok, Err, Result, option_map}
 use Rattle.refusal.specs.declared.Refusal.{Refusal}
@@ -16,7 +17,7 @@ use Rattle.checks.specs.CheckedRows.{row_of}
 use Rattle.echelon.specs.Rows.{Fixes, row_with}
 use Rattle.echelon.specs.Reduced.{Pivoted, record_rows, PinnedWith}
 use Rattle.record.specs.Judged.{Adds, FitsBoth}
-use Rattle.record.specs.Records.{rec_of}
+use Rattle.record.specs.Records.{record_members, rec_of}
 use Rattle.record.specs.declared.judge.Admission.{Admission}
 use Rattle.record.specs.declared.judge.Admission.TheVariants.{Joined, Kept}
 use Rattle.record.specs.declared.record.Record.{Record}
@@ -43,3 +44,7 @@ pub data Answered {F : Type 0} {G : Ghosts F} (M : FieldModel) (n : ℕ) (rec : 
       (p : ℕ × CheckedRow F G) → o ≡ Some p → f < M.size → (Fixes M n (record_rows rec) (row_of p.1) → ⊥)
       → FitsBoth M n rec (row_with (row_of p.1) f) rec' → Adds M n rec (row_with (row_of p.1) f) rec'
       → Answered M n rec o f rec' (Ok Joined)
+
+abbrev pub AnsweredIn : {F : Type 0} {G : Ghosts F} → Audit F G → ℕ → Audit F G → Result Admission Refusal → Type 0
+AnsweredIn {G = G} a f a' s =
+    Answered G.model (record_members (audited a)) (rec_of (audited a)) (opened a) f (rec_of (audited a')) s

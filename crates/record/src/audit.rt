@@ -30,7 +30,7 @@ impl<F: Field> Audit<F> {
     ghost use Rattle.server.specs.Checks.{Lowest};
     ghost use Rattle.checks.specs.CheckedRows.{row_of};
     ghost use Rattle.record.specs.Records.{record_members};
-    ghost use Rattle.record.specs.Audits.{audited, opened, PinnedBeside, Answered};
+    ghost use Rattle.record.specs.Audits.{audited, opened, PinnedBeside, AnsweredIn};
 
     // An audit of a record, with no row open.
     pub fn new(record: Record<F>) -> Audit<F>
@@ -84,7 +84,7 @@ impl<F: Field> Audit<F> {
 
     // Takes the open row into the record with its figure, and no row is open then.
     pub fn answer(&mut self, figure: Element) -> Result<Admission, Refusal>
-        ensures answered { Answered F.model (record_members (audited self.old)) (rec_of (audited self.old)) (opened self.old) figure.0 (rec_of (audited self.new)) result }
+        ensures answered { AnsweredIn self.old figure.0 self.new result }
         ensures count { record_members (audited self.new) ≡ record_members (audited self.old) }
         ensures closed { OnOk result (opened self.new ≡ None) }
         ensures refused { OnErr result (self.new ≡ self.old) }

@@ -49,9 +49,8 @@ impl<F: Field> Record<F> {
     ghost use Rattle.echelon.specs.Witness.{Free, Leads, Witness};
     ghost use Rattle.checks.specs.Checks.{WitnessCheck};
     ghost use Rattle.checks.specs.CheckedRows.{row_of};
-    ghost use Rattle.record.specs.Records.{record_members, rec_of, AloneBeside, MayTake, Along};
-    ghost use Rattle.record.specs.Judged.{Judged, Adds, FitsBoth, Admitted};
-    ghost use Rattle.echelon.specs.Rows.{row_with};
+    ghost use Rattle.record.specs.Records.{record_members, rec_of, AloneBeside, MayTake, JoinFits, JoinAdds, Along};
+    ghost use Rattle.record.specs.Judged.{Judged, Admitted};
     ghost use Rattle.record.specs.Standings.{unfigured, Stands};
 
     // An empty record for a count of members, which every server has between 1 and 64.
@@ -187,8 +186,8 @@ impl<F: Field> Record<F> {
         requires figure { figure.0 < F.model.size }
         requires joins { (w : Vector) × MayTake self.old w fresh.now }
         ensures count { record_members self.new ≡ record_members self.old }
-        ensures fits { (w : Vector) → MayTake self.old w fresh.now → FitsBoth F.model (record_members self.old) (rec_of self.old) (row_with w figure.0) (rec_of self.new) }
-        ensures adds { (w : Vector) → MayTake self.old w fresh.now → Adds F.model (record_members self.old) (rec_of self.old) (row_with w figure.0) (rec_of self.new) }
+        ensures fits { (w : Vector) → MayTake self.old w fresh.now → JoinFits self.old w figure.0 self.new }
+        ensures adds { (w : Vector) → MayTake self.old w fresh.now → JoinAdds self.old w figure.0 self.new }
     {
         let row = fresh.figured::<F>(figure);
         let k = self.place_of(row.pivot);
