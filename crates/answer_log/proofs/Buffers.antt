@@ -1,8 +1,8 @@
 -- A row, written part after part to the front of a buffer. Assumes nothing.
-use Rattle.std.proofs.Common.{◌≡◌, ℕ, ◌+◌, ◌-◌, ◌<◌, ◌≤◌, List, [], ◌∷◌, ◌++◌, length, take, drop, set, Some, None, Option, sym, ap, ◌∙◌, ap₂, arith, MatchOption}
+use Rattle.std.proofs.Common.{◌≡◌, ℕ, ◌+◌, ◌-◌, ◌<◌, ◌≤◌, List, [], ◌∷◌, ◌++◌, length, take, drop, set, Some, None, Option, refl, sym, subst, ap, ◌∙◌, ap₂, arith, MatchOption}
 use borrow.Rule.Slice.PartMut.{put_mid}
 use Rattle.std.proofs.lemmas.List.{append_assoc, length-append}
-use Rattle.std.specs.Option.{unwrap_or}
+use Rattle.std.specs.Option.{IsSome}
 use Rattle.field.specs.Model.{FieldModel}
 use Rattle.field.specs.Bytes.{width, written}
 use Rattle.field.specs.Sums.{Vector}
@@ -77,10 +77,22 @@ pub encoded :
 encoded M e before after None h room told = absurd (told.1 h room)
 encoded M e before after (Some k) h room told = told.3
 
-pub encoded_count :
+-- so it is, and as many bytes are written as an element has
+pub encoded_some :
     (M : FieldModel) (e : ℕ) (before after : List ℕ) (r : Option ℕ) → e < M.size → width M ≤ length before
     → MatchOption r ((after ≡ before) × (e < M.size → width M ≤ length before → ⊥))
     (λ k. (e < M.size) × (k ≡ width M) × (k ≤ length before) × (after ≡ written M e ++ drop (width M) before))
-    → unwrap_or r 0 ≡ width M
-encoded_count M e before after None h room told = absurd (told.1 h room)
-encoded_count M e before after (Some k) h room told = told.1
+    → IsSome r
+encoded_some M e before after None h room told = absurd (told.1 h room)
+encoded_some M e before after (Some k) h room told = refl
+
+pub encoded_count :
+    (M : FieldModel) (e : ℕ) (before after : List ℕ) (r : Option ℕ) (k : ℕ)
+    → MatchOption r ((after ≡ before) × (e < M.size → width M ≤ length before → ⊥))
+    (λ k. (e < M.size) × (k ≡ width M) × (k ≤ length before) × (after ≡ written M e ++ drop (width M) before))
+    → r ≡ Some k → k ≡ width M
+encoded_count M e before after r k told is =
+    (subst
+    (λ (x : Option ℕ).
+    MatchOption x ((after ≡ before) × (e < M.size → width M ≤ length before → ⊥))
+    (λ k. (e < M.size) × (k ≡ width M) × (k ≤ length before) × (after ≡ written M e ++ drop (width M) before))) is told).1

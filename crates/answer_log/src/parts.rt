@@ -98,7 +98,7 @@ impl<F: Field> Row<'_, F> {
         let mut at = 0;
         for weight in self.weights {
             if weight.0 != 0 {
-                at += encode::<F>(*weight, &mut out[at..]).unwrap_or(0);
+                at += encode::<F>(*weight, &mut out[at..]).unwrap();
             }
         }
         at
@@ -125,6 +125,6 @@ impl<F: Field> Row<'_, F> {
         self.write_map(&mut out[1..]);
         let at = 1 + map_length(self.weights.len() as u8);
         let stored = self.write_stored(&mut out[at..]);
-        let _ = encode::<F>(self.figure, &mut out[at + stored..]);
+        encode::<F>(self.figure, &mut out[at + stored..]).unwrap();
     }
 }
