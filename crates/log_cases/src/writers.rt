@@ -82,12 +82,7 @@ fn shown(
 }
 
 // Makes a row of `n` weights, and writes it.
-fn write(
-    n: usize,
-    weights: &[Element],
-    figure: Element,
-    out: &mut [u8],
-) -> Result<usize, Refusal> {
+fn write(n: usize, weights: &[Element], figure: Element, out: &mut [u8]) -> Result<usize, Refusal> {
     write_row::<Amounts>(&CheckedRow::new(weights, n)?, figure, out)
 }
 
