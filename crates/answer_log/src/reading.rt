@@ -12,15 +12,27 @@ use field::{Element, Field, decode, element_width};
 use member_map::{is_named, map_length, named_count, stray_bit};
 use refusal::{LogRow, Member, Refusal, Site};
 use server::is_count;
+use std::alloc::AllocError;
 use stored::{check_value, header_count};
 
 // A row as it was read, which passed its checks, its figure, and where the next row begins.
-#[derive(Drop)]
 pub struct LogEntry<F: Field> {
     pub row: CheckedRow<F>,
     pub figure: Element,
     pub next: usize,
 }
+
+impl<F: Field> Clone for LogEntry<F> {
+    ghost is_clone = { λ x y. y ≡ x };
+
+    ghost is_infallible = { λ _. Unit {0} };
+
+    fn clone(&self) -> Result<LogEntry<F>, AllocError> {
+        Ok(*self)
+    }
+}
+
+impl<F: Field> Copy for LogEntry<F> {}
 
 // Checks the header of a log for a server of `n` members.
 pub fn read_header<F: Field>(bytes: &[u8], n: usize) -> Result<(), Refusal>

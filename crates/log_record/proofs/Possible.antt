@@ -9,11 +9,12 @@ use Rattle.echelon.specs.Rows.{Figured, rows_of, Fits, Fixes, row_with}
 use Rattle.echelon.specs.Reduced.{FitsGiven}
 use Rattle.echelon.proofs.Forms.{given-agree}
 use Rattle.echelon.proofs.Given.{fits-given}
-use Rattle.law.specs.States.{answered_by}
-use Rattle.law.proofs.Facts.{sound_after, last_table, all_given}
-use Rattle.law.proofs.Possible.{every_value_stays_possible_lem}
+use Rattle.law.specs.States.{State, Event, answered_by}
+use Rattle.law.specs.Law.{Lawful}
+use Rattle.law.proofs.Facts.{sound_after, sound_is_sane, last_table, all_given}
+use Rattle.law.proofs.Possible.{every_value_stays_possible_lem, due_witnesses_fit_lem}
 use Rattle.log_record.specs.Joins.{Contradicts, JoinCheck, joins, RowsJoin, no_more, next_row, LogRecord, rows}
-use Rattle.log_record.specs.Theorems.{PossibleAfterALog}
+use Rattle.log_record.specs.Theorems.{WitnessAfterALog, WitnessesFitTheLog, PossibleAfterALog}
 
 module _ (M : FieldModel) (n : ℕ) where
   -- a table that has each figure which is not fixed has each figure
@@ -46,13 +47,26 @@ module _ (M : FieldModel) (n : ℕ) where
   older_fit [] older t fits = fits
   older_fit (g ∷ newer) older t fits = older_fit newer older t fits.1
 
+module _ (M : FieldModel) {bs : List ℕ} {log : List Figured} {σ τ : State} {es : List Event} (accepted : LogRecord M (length σ.table) bs None log) (is : σ.given ≡ log) (run : Lawful M σ es τ) where
+  -- a table that has each figure which is not fixed has each figure of the log
+  fits_log : (t : Vector) → Codes M (length τ.table) t → FitsGiven M (length τ.table) τ.given t → Fits M (length τ.table) log t
+  fits_log t codes figures =
+      let n = length τ.table in
+      let all : FitsGiven M n (answered_by σ es ++ log) t =
+      subst (λ (rows : List Figured). FitsGiven M n rows t) (all_given run ∙ ap (λ l. answered_by σ es ++ l) is) figures
+      in
+      let read : LogRecord M n bs None log = subst (λ (T : List ℕ). LogRecord M (length T) bs None log) (sym (last_table run)) accepted in
+      log_full M n bs log read t codes (older_fit M n (answered_by σ es) log t all)
+
+witness_after_a_log : WitnessAfterALog
+witness_after_a_log M L bs log σ τ es sound accepted is run i a below code =
+    let (w, known) = (every_value_stays_possible_lem M L τ (sound_is_sane (sound_after M L run sound))).0 i a below code in
+    (w, known, fits_log M accepted is run (value_at w) known.codes known.figures)
+
+witnesses_fit_the_log : WitnessesFitTheLog
+witnesses_fit_the_log M L bs log σ τ es accepted is run i a below code e of_it due =
+    let (w, same, there, codes, figures) = due_witnesses_fit_lem M L τ i a below code e of_it due in
+    (w, same, there, codes, fits_log M accepted is run (value_at w) codes figures, figures)
+
 pub possible_after_a_log_lem : PossibleAfterALog
-possible_after_a_log_lem M L bs log σ τ es sound accepted is run i a below code =
-    let (w, known) = (every_value_stays_possible_lem M L τ (sound_after M L run sound)).0 i a below code in
-    let all : FitsGiven M (length τ.table) (answered_by σ es ++ log) (value_at w) =
-    subst (λ (rows : List Figured). FitsGiven M (length τ.table) rows (value_at w)) (all_given run ∙ ap (λ l. answered_by σ es ++ l) is) known.figures
-    in
-    let read : LogRecord M (length τ.table) bs None log =
-    subst (λ (T : List ℕ). LogRecord M (length T) bs None log) (sym (last_table run)) accepted
-    in
-    (w, known, log_full M (length τ.table) bs log read (value_at w) known.codes (older_fit M (length τ.table) (answered_by σ es) log (value_at w) all))
+possible_after_a_log_lem = (witness_after_a_log, witnesses_fit_the_log)

@@ -6,16 +6,18 @@
 --   AnsweredIsAccepted   what a new session answered makes an accepted log
 --   OneAnswer            a log has one answer
 --   LogIsSound           a session resumed from a log begins in a sound state
---   PossibleAfterALog    every value stays possible after a log
+--   WitnessAfterALog, WitnessesFitTheLog, PossibleAfterALog   every value stays possible after a log
 -- Assumes nothing.
 use Rattle.std.specs.Prelude.{◌≡◌, ℕ, ◌<◌, List, [], ◌∷◌, length, None, Option, slice_index}
 use Rattle.refusal.specs.declared.Refusal.{Refusal}
 use Rattle.field.specs.Model.{FieldModel, FieldLaws}
+use Rattle.field.specs.Sums.{Codes}
 use Rattle.server.specs.Checks.{Count}
 use Rattle.server.specs.Tables.{Table, value_at}
 use Rattle.echelon.specs.Rows.{Figured, Fits}
-use Rattle.law.specs.States.{State, new_state, log_state, Event}
-use Rattle.law.specs.Law.{Lawful}
+use Rattle.echelon.specs.Reduced.{FitsGiven}
+use Rattle.law.specs.States.{State, new_state, log_state, witnesses, Event, witnessed, call_of}
+use Rattle.law.specs.Law.{Due, Lawful}
 use Rattle.law.specs.Sound.{RowFine, AllFine, Sound}
 use Rattle.law.specs.Promises.{IsWitness}
 use Rattle.answer_log.specs.Logs.{LogCheck}
@@ -74,11 +76,24 @@ OneAnswer =
     (M : FieldModel) → FieldLaws M → (n : ℕ) (bs : List ℕ) (r r' : Option Refusal) (given given' : List Figured)
     → LogRecord M n bs r given → LogRecord M n bs r' given' → (r ≡ r') × (given ≡ given')
 
--- Every value stays possible after a log, whether or not the table fits it: for every member and element there is a witness
--- that has each figure of the log as its sum.
-abbrev pub PossibleAfterALog : Type 0
-PossibleAfterALog =
+-- For every member and element there is a witness that has each figure of the log as its sum.
+abbrev pub WitnessAfterALog : Type 0
+WitnessAfterALog =
     (M : FieldModel) → FieldLaws M → (bs : List ℕ) (log : List Figured) (σ τ : State) (es : List Event) → Sound M σ
     → LogRecord M (length σ.table) bs None log → σ.given ≡ log → Lawful M σ es τ
     → (i a : ℕ) → i < length τ.table → a < M.size
     → (w : List ℕ) × IsWitness M τ i a w × Fits M (length τ.table) log (value_at w)
+
+-- And what is due to a witness call after a log is such a table, over any table and whatever permits were issued.
+abbrev pub WitnessesFitTheLog : Type 0
+WitnessesFitTheLog =
+    (M : FieldModel) → FieldLaws M → (bs : List ℕ) (log : List Figured) (σ τ : State) (es : List Event)
+    → LogRecord M (length σ.table) bs None log → σ.given ≡ log → Lawful M σ es τ
+    → (i a : ℕ) → i < length τ.table → a < M.size
+    → (e : Event) → call_of e ≡ witnesses i a (length τ.table) → Due M τ e
+    → (w : List ℕ) × (e ≡ witnessed i a (length τ.table) w) × (value_at w i ≡ a) × Codes M (length τ.table) (value_at w)
+    × Fits M (length τ.table) log (value_at w) × FitsGiven M (length τ.table) τ.given (value_at w)
+
+-- Every value stays possible after a log, whether or not the table fits it.
+abbrev pub PossibleAfterALog : Type 0
+PossibleAfterALog = WitnessAfterALog × WitnessesFitTheLog

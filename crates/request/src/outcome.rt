@@ -1,8 +1,10 @@
 // What comes of a line that is not refused.
+ghost use Rattle.std.specs.Prelude.{◌≡◌};
+
 use checks::CheckedRow;
 use field::{Element, Field};
+use std::alloc::AllocError;
 
-#[derive(Drop)]
 pub enum Outcome<F: Field> {
     // A remark: nothing was asked.
     Skipped,
@@ -13,3 +15,15 @@ pub enum Outcome<F: Field> {
     // The witness table, 0 from the count on; no Vec, since a line wants no memory.
     Filled([Element; 64]),
 }
+
+impl<F: Field> Clone for Outcome<F> {
+    ghost is_clone = { λ x y. y ≡ x };
+
+    ghost is_infallible = { λ _. Unit {0} };
+
+    fn clone(&self) -> Result<Outcome<F>, AllocError> {
+        Ok(*self)
+    }
+}
+
+impl<F: Field> Copy for Outcome<F> {}

@@ -1,5 +1,6 @@
 -- A session in memory, and the states of the law that it stands for.
 --   server_of, table_of, members_of x   its server; the server's table; how many members it has
+--   held_record x           its record, whole
 --   record_of, issued_of x  the rows of its record; how many permits it issued
 --   open_permit, open_row_of x   the number of the open permit; the row that is open
 --   IsOpenRow x k ws        the row of the weights ws is open, under the permit k
@@ -21,6 +22,7 @@ use Rattle.echelon.specs.Rows.{Figured}
 use Rattle.echelon.specs.Reduced.{Pivoted, ReducedForm}
 use Rattle.checks.specs.declared.row.CheckedRow.{CheckedRow}
 use Rattle.checks.specs.CheckedRows.{row_of}
+use Rattle.record.specs.declared.record.Record.{Record}
 use Rattle.record.specs.Records.{rec_of}
 use Rattle.record.specs.Audits.{opened}
 use Rattle.law.specs.States as states
@@ -38,6 +40,9 @@ table_of {GS = GS} x = GS.table x.server
 
 abbrev pub members_of : {S V : Type 0} {GS : server.Ghosts S V} {GV : field.Ghosts V} → Session S V GS GV → ℕ
 members_of {GS = GS} x = length (GS.table x.server)
+
+abbrev pub held_record : {S V : Type 0} {GS : server.Ghosts S V} {GV : field.Ghosts V} → Session S V GS GV → Record V GV
+held_record x = x.audit.«record»
 
 abbrev pub record_of : {S V : Type 0} {GS : server.Ghosts S V} {GV : field.Ghosts V} → Session S V GS GV → List Pivoted
 record_of x = rec_of x.audit.«record»

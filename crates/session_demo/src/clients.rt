@@ -1,7 +1,7 @@
 // Two clients of a session: one has a row answered, one tries a row and takes it back. They are what any client writes, and so
 // stand here and not in a crate below.
 ghost use Rattle.std.specs.Prelude.{◌≡◌};
-ghost use Rattle.session.specs.States.{server_of, record_of};
+ghost use Rattle.session.specs.States.{server_of, held_record};
 
 use field::Element;
 use refusal::Refusal;
@@ -25,7 +25,7 @@ pub(crate) fn try_once<S: Server>(
     weights: &[Element],
 ) -> Result<(), Refusal>
     ensures server { server_of session.new ≡ server_of session.old }
-    ensures kept { record_of session.new ≡ record_of session.old }
+    ensures kept { held_record session.new ≡ held_record session.old }
 {
     let mut permit = session.submit(weights)?;
     session.withdraw(&mut permit)

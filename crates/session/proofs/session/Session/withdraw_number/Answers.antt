@@ -14,6 +14,7 @@ returns-in_err-open_row g c =
     rw (p.1, p.2, at.refused)
     (record {
       server = refl;
+      «record» = refl;
       rows = refl;
       issued = refl;
       refused = refl;
