@@ -1,9 +1,8 @@
 -- Counts of named members: one member more, and how many at most. Assumes nothing.
-use Rattle.std.proofs.Common.{◌≡◌, count_by, sum_by, filter, length, sym, zero-add, ℕ, zero, suc, ◌+◌, ◌*◌, ◌≤◌, Bool, true, false, cond, List, refl, ap, ◌∙◌, mul-le-mul, add-one, arith}
+use Rattle.std.proofs.Common.{◌≡◌, count_by, sum_by, sym, zero-add, ℕ, zero, suc, ◌+◌, ◌*◌, ◌≤◌, Bool, true, false, cond, List, refl, ap, ◌∙◌, mul-le-mul, add-one, arith}
 use Rattle.std.specs.List.{range_with_len}
 use mathlib.Core.List.{map as maps}
 use Rattle.std.proofs.lemmas.List.{map-id}
-use Rattle.std.proofs.lemmas.List.Sums.{length-filter}
 use Rattle.std.proofs.lemmas.List.FromFn.{sum_by-map-range_with_len_more}
 use Rattle.member_map.specs.Maps.{named, named_below}
 
@@ -16,13 +15,13 @@ module _ (map : List ℕ) where
   unfolding named_below
   below_more m = ap (named_below map) (add-one m)
 
-  abbrev one : ℕ → ℕ
+  abbrev pub one : ℕ → ℕ
   one m = cond (named map m) 1 0
 
   own : (k : ℕ) → sum_by one (range_with_len 0 k) ≡ sum_by one (maps (λ m. m) (range_with_len 0 k))
   own k = ap (sum_by one) (sym (map-id (range_with_len 0 k)))
 
-  counted : (k : ℕ) → count_by (named map) (range_with_len 0 k) ≡ named_below map k
+  pub counted : (k : ℕ) → count_by (named map) (range_with_len 0 k) ≡ named_below map k
   counted zero = sym none_below
   counted (suc k) =
       ap (λ j. sum_by one (range_with_len 0 j)) (sym (add-one k))
@@ -31,10 +30,6 @@ module _ (map : List ℕ) where
       ∙ ap (λ j. j + one k) (sym (own k) ∙ counted k)
       ∙ sym (below_more k)
       ∙ ap (named_below map) (add-one k)
-
-  -- the members' numbers that pass, counted
-  pub filtered_below : (n : ℕ) → length (filter (named map) (range_with_len 0 n)) ≡ named_below map n
-  filtered_below n = length-filter (named map) (range_with_len 0 n) ∙ counted n
 
   pub below-named : (m : ℕ) → named map m ≡ true → named_below map (m + 1) ≡ named_below map m + 1
   below-named m e = below_more m ∙ ap (λ b. named_below map m + cond b 1 0) e
@@ -50,7 +45,7 @@ module _ (map : List ℕ) where
   below_rises m = (omega (arith, below_more m), omega (arith, below_more m, bit (named map m)))
 
   -- no more members are named than there are
-  few-named : (m : ℕ) → named_below map m ≤ m
+  pub few-named : (m : ℕ) → named_below map m ≤ m
   few-named zero = omega (arith, none_below)
   few-named (suc m) =
       let next : suc m ≡ m + 1 = omega arith in

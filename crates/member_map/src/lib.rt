@@ -25,9 +25,10 @@ pub fn is_named(map: &[u8], m: Member) -> bool
 pub fn named_count(map: &[u8], n: u8) -> usize
     ensures { result ≡ named_below map.now n }
 {
+    // The bits are added up: a test of each would be a jump that is guessed wrong.
     (0..usize::from(n))
-        .filter(|m| is_named(map, Member(*m)))
-        .count()
+        .map(|m| usize::from(is_named(map, Member(m))))
+        .sum()
 }
 
 // The lowest bit that stands in the map of `n` members for no member.
